@@ -2,7 +2,7 @@
 use Rattle.std.proofs.Common.{◌≡◌, ◌≢◌, ℕ, zero, suc, ◌+◌, ◌/◌, ◌%◌, ◌<◌, ◌⊎◌, ⊎_elim, List, [], ◌∷◌, ◌++◌, ◌==◌, cond}
 use Rattle.std.proofs.Common.{refl, sym, ap, ◌∙◌, subst, arith, Option, Some, None, Ok, Err, get_or, set}
 use Rattle.std.proofs.Common.{get_or-set_other, get_or-set_same, inl, inr}
-use Rattle.std.specs.Prelude.{IfNone, IfSome}
+use Rattle.std.specs.Prelude.{IfSome}
 use Rattle.std.specs.Int.{to_le_bytes, w64}
 use mathlib.Core.Logic.{dite}
 use native.Mathlib.Decide.{ℕ_discrete}
@@ -120,20 +120,14 @@ module _ (id first second : ℕ) (old mid new : Token) (clerk : old.number ≡ 0
       → HasRoom id way old new
   room_at way place inside free = record { grows = both_grow; inside = inside; place = place; free = free }
 
-  some_of : (r : Option ℕ) (way : ℕ) (P : ℕ → Type 0) → r ≡ Some way → IfSome r P → P way
-  some_of r way P is h = subst (λ (o : Option ℕ). IfSome o P) is h
-
-  none_of : (r : Option ℕ) (P : Type 0) → r ≡ None → IfNone r P → P
-  none_of r P is h = subst (λ (o : Option ℕ). IfNone o P) is h
-
   -- one of the rooms that were found, or none was
   pub room_found : (found : Option ℕ) → IfSome found (λ way. (here.way ≡ Some way) ⊎ (there.way ≡ Some way))
       → (found ≡ None → (here.way ≡ None) × (there.way ≡ None)) → Rooms id old new found
   room_found (Some way) some none = ⊎_elim
-      (λ (is : here.way ≡ Some way). let h = some_of here.way way _ is a.free in
+      (λ (is : here.way ≡ Some way). let h = rw is at a.free in
       room_at way (at_first old.directory.plan id way (h.0 ∙ first_is)) (let e = h.0 in let l = low.0 in omega arith)
       (clerk_looks mid 1 mid.number new way mid_clerk b.grows ∙ h.1))
-      (λ (is : there.way ≡ Some way). let h = some_of there.way way _ is b.free in
+      (λ (is : there.way ≡ Some way). let h = rw is at b.free in
       room_at way (at_second old.directory.plan id way (h.0 ∙ second_is))
       (let e = h.0 in let l = low.1 in omega arith) h.1) some
   room_found None some none = let both = none refl in (
@@ -142,8 +136,8 @@ module _ (id first second : ℕ) (old mid new : Token) (clerk : old.number ≡ 0
         let same : way_for new id place ≡ way_for old id place
         = ap (λ (d : Opened). way_at d.plan id place) both_grow.directory in
         each_place id first second old (λ way. name_of new.seen way ≢ 0) first_is second_is
-        (still_passed (way_in first) 0 old mid new 1 clerk mid_clerk b.grows (none_of here.way _ both.0 a.full) clerk)
-        (none_of there.way _ both.1 b.full mid_clerk) place near (ap (name_of new.seen) (sym same) ∙ has),
+        (still_passed (way_in first) 0 old mid new 1 clerk mid_clerk b.grows (rw both.0 at a.full) clerk)
+        ((rw both.1 at b.full) mid_clerk) place near (ap (name_of new.seen) (sym same) ∙ has),
   )
 
 -- A HINT IS WRITTEN

@@ -47,10 +47,8 @@ bits_from_lack begin count step few low behind =
 
 -- the next choice begins behind the place
 bit_of_begin : (marks i : ℕ) → i < 3 → bit_at (begin_of marks) i ≡ bit_at marks (8 + i)
-bit_of_begin marks zero low = omega arith
-bit_of_begin marks (suc zero) low = omega arith
-bit_of_begin marks (suc (suc zero)) low = omega arith
 bit_of_begin marks (suc (suc (suc more))) low = absurd (omega (arith, low))
+bit_of_begin marks i low = omega arith
 
 module _ (marks place bits : ℕ) (chooses : ChoosesPlace marks place bits) where
   abbrev pub begin : ℕ

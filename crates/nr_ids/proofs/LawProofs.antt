@@ -1,16 +1,14 @@
 -- The laws.
 use Rattle.std.proofs.Common.{◌≡◌, ℕ, ◌+◌, ◌%◌, ◌<◌, ◌⊎◌, ⊎_elim, inl, inr, List, [], ◌∷◌, ◌++◌, refl, sym, ap, ◌∙◌}
-use Rattle.std.proofs.Common.{subst, arith, append_assoc, Option, Some, None}
-use mathlib.Core.Logic.{dite}
-use native.Mathlib.Decide.{ℕ_discrete}
+use Rattle.std.proofs.Common.{subst, arith, append_assoc, Option, Some, None, ◌==◌, cond, Bool, true, false}
 use Rattle.nr_ids.specs.declared.plan.Plan.{Plan}
 use Rattle.nr_ids.specs.Groups.{group_of}
 use Rattle.nr_ids.specs.Events.{Event, named, unnamed, cleared, claimed, name_of, turn_of, IsLegal, IsOpen}
-use Rattle.nr_ids.specs.Laws.{OneClaim, OneNaming, TurnCounts, FindsWhatItHeard, FindsWhatItKnew, Has, claims, closings}
+use Rattle.nr_ids.specs.Laws.{OneClaim, OneNaming, TurnCounts, FindsWhatItHeard, FindsWhatItKnew, Has}
 use Rattle.nr_ids.specs.Answers.{LooksUp}
 use Rattle.nr_ids.specs.Tokens.{Token, Within}
-use Rattle.nr_ids.proofs.Logs.{cond_same, cond_else, legal_end, named_inside, name_step, one_way, turn_step, closes}
-use Rattle.nr_ids.proofs.Logs.{new_name, no_name, opens, same_name, same_turn}
+use Rattle.nr_ids.proofs.Logs.{cond_same, legal_end, named_inside, name_step, one_way, turn_step, closes, new_name}
+use Rattle.nr_ids.proofs.Logs.{no_name, opens, same_name, same_turn}
 use Rattle.nr_ids.proofs.Through.{looks_in_both, looks_up, looks_up_to}
 
 has_on : (event first : Event) (rest : List Event) → Has event rest → Has event (first ∷ rest)
@@ -59,19 +57,17 @@ one_naming plan rest log way first id legal = let before = legal_end plan rest (
     (stays plan rest (named first id ∷ log) first id legal.1 before.0.real
     (cond_same id (name_of log first) first first refl))
 
+one_more : (b : Bool) (turn granted closed : ℕ) → turn ≡ granted + closed
+    → (cond b (turn + 1) turn ≡ cond b (granted + 1) granted + closed)
+    × (cond b (turn + 1) turn ≡ granted + cond b (closed + 1) closed)
+one_more true turn granted closed is = (omega (arith, is), omega (arith, is))
+one_more false turn granted closed is = (is, is)
+
 pub turn_counts : TurnCounts
 turn_counts plan [] group = refl
-turn_counts plan (cleared of ∷ log) group = let turn : ℕ = turn_of plan log group in
-    let before = turn_counts plan log group in let closed : ℕ = closings group log in dite (ℕ_discrete of group)
-    (λ (e : of ≡ group).
-    omega (arith, before, cond_same (turn + 1) turn of group e, cond_same (closed + 1) closed of group e))
-    (λ ne. omega (arith, before, cond_else (turn + 1) turn of group ne, cond_else (closed + 1) closed of group ne))
-turn_counts plan (claimed by id ∷ log) group = let turn : ℕ = turn_of plan log group in
-    let before = turn_counts plan log group in let granted : ℕ = claims plan group log in let of = group_of plan id in
-    dite (ℕ_discrete (group_of plan id) group)
-    (λ (e : group_of plan id ≡ group).
-    omega (arith, before, cond_same (turn + 1) turn of group e, cond_same (granted + 1) granted of group e))
-    (λ ne. omega (arith, before, cond_else (turn + 1) turn of group ne, cond_else (granted + 1) granted of group ne))
+turn_counts plan (cleared of ∷ log) group = (one_more (of == group) _ _ _ (turn_counts plan log group)).1
+turn_counts plan (claimed by id ∷ log) group =
+    (one_more (group_of plan id == group) _ _ _ (turn_counts plan log group)).0
 turn_counts plan (event ∷ log) group = turn_counts plan log group
 
 has_before : (event : Event) (later since : List Event) → Has event since → Has event (later ++ since)

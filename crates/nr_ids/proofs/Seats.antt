@@ -39,16 +39,16 @@ pub record Stands (table : TableId) (key : Plan) (now : Opened) : Type 0 where
   pub wide : table.words ≡ total now.plan
   pub sizes : IsPlan now.plan
 
-pub stands : (table : TableId) (key plan : Plan) (now : Opened) → record { id = table; plan = plan } ≡ now
+pub stands : {table : TableId} {key plan : Plan} {now : Opened} → record { id = table; plan = plan } ≡ now
     → (key ≡ plan) × (table.words ≡ total plan) × IsPlan plan → Stands table key now
-stands table key plan now is about = let plan_is : plan ≡ now.plan = ap (λ (d : Opened). d.plan) is in record {
+stands {plan = plan} {now = now} is about = let plan_is : plan ≡ now.plan = ap (λ (d : Opened). d.plan) is in record {
   id = ap (λ (d : Opened). d.id) is;
   key_is = about.0 ∙ plan_is;
   wide = about.1 ∙ ap total plan_is;
   sizes = subst IsPlan plan_is about.2;
 }
 
-module _ (table : TableId) (key : Plan) (now : Opened) (about : Stands table key now) (seat : Caller)
+module _ {table : TableId} {key : Plan} {now : Opened} (about : Stands table key now) {seat : Caller}
     (sits : Sits now seat) where
   pub plan_is : seat.me.0.plan ≡ key
   plan_is = ap (λ (d : Opened). d.plan) sits.own ∙ sym about.key_is

@@ -50,34 +50,34 @@ name-requires-clause-may c =
     let turn = c.look_at_turn-turn.ensures in
     let missed = c.in_default.ensures.scans in
     let it = hints_way c.requires.id c.clerk.invariant.1 turn.grows missed c.in-Some-room_for.ensures.rooms
-    (search rules) c.hint.ensures.hints in
+    (cc) c.hint.ensures.hints in
     subst (λ (d : Opened). MayName d.plan (token c.hint.new.seat).seen c.in-Some-room_for.way c.args.id)
-    turn.caller.own (may_admit it (search rules) c.if-turn-eq0.false)
+    turn.caller.own (may_admit it (cc) c.if-turn-eq0.false)
 
 pub close-requires-clause-was : goal.close-requires-clause-was
 close-requires-clause-was c =
     let turn = c.look_at_turn-turn in
     let first = token turn.new.seat in
     let it = hints_way c.requires.id c.clerk.invariant.1 turn.ensures.grows c.in_default.ensures.scans
-    c.in-Some-room_for.ensures.rooms (search rules) c.hint.ensures.hints in
+    c.in-Some-room_for.ensures.rooms (cc) c.hint.ensures.hints in
     let still : turn_of first.directory.plan (token c.name.new.seat).seen (group_for first c.args.id) ≡ turn.result
-    = still_open it (search rules) c.if-turn-eq0.false c.name.ensures.grows in
+    = still_open it (cc) c.if-turn-eq0.false c.name.ensures.grows in
     search rules
 
 pub invariant_of-clerk-2 : goal.invariant_of-clerk-2
 invariant_of-clerk-2 c =
     let turn = c.look_at_turn-turn.ensures.grows in
     let it = hints_way c.requires.id c.clerk.invariant.1 turn c.in_default.ensures.scans
-    c.in-Some-room_for.ensures.rooms (search rules) c.hint.ensures.hints in
+    c.in-Some-room_for.ensures.rooms (cc) c.hint.ensures.hints in
     let named = c.name.ensures.grows in
     let closed = c.close.ensures.grows in
     clerk_so c.close.ensures.clerk
-    ((whole it named (search rules) closed).number ∙ turn.number ∙ c.clerk.invariant.1)
-    (admitted_of_names it named (search rules) closed c.clerk.invariant.2)
+    ((whole it named (cc) closed).number ∙ turn.number ∙ c.clerk.invariant.1)
+    (admitted_of_names it named (cc) closed c.clerk.invariant.2)
 
 pub returns-clause-answer : goal.returns-clause-answer
 returns-clause-answer c =
     let it = hints_way c.requires.id c.clerk.invariant.1 c.look_at_turn-turn.ensures.grows
-    c.in_default.ensures.scans c.in-Some-room_for.ensures.rooms (search rules) c.hint.ensures.hints in
+    c.in_default.ensures.scans c.in-Some-room_for.ensures.rooms (cc) c.hint.ensures.hints in
     subst (λ (t : Token). Admits c.args.id t (token c.close.new.seat) (Ok c.in-Some-room_for.way)) c.clerk.view_is
-    (admission it c.name.ensures.grows (search rules) c.close.ensures.grows)
+    (admission it c.name.ensures.grows (cc) c.close.ensures.grows)

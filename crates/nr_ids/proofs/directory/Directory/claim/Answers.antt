@@ -10,9 +10,8 @@ pub compare_exchange_with-found-requires : goal.compare_exchange_with-found-requ
 compare_exchange_with-found-requires c = let plan_is = ap (λ (d : Opened). d.plan) c.self.view_is in
     let low : c.group_of.result < c.args.self.now.plan.groups
     = omega (arith, c.group_of.ensures.inside, ap (λ (plan : Plan). plan.groups) plan_is) in
-    claims_group _ _ _ (stands _ _ _ _ c.self.view_is c.self.invariant) c.args.seat.now c.requires.caller
-    c.group_of.result c.turn_place-place.result c.args.id c.args.was
-    (c.group_of.ensures.value ∙ ap (λ (plan : Plan). group_of plan c.args.id) plan_is) low
+    claims_group (stands c.self.view_is c.self.invariant) c.requires.caller c.group_of.result c.turn_place-place.result
+    c.args.id c.args.was (c.group_of.ensures.value ∙ ap (λ (plan : Plan). group_of plan c.args.id) plan_is) low
     c.turn_place-place.ensures.value c.requires.id c.requires.closed c.requires.early c.requires.scanned
 
 pub returns-clause-won : goal.returns-clause-won

@@ -6,9 +6,9 @@ use Rattle.nr_ids.proofs.directory.Directory.close.Goals as goal
 
 pub store-requires : goal.store-requires
 store-requires c =
-    clears_group _ _ _ (stands _ _ _ _ c.self.view_is c.self.invariant) c.args.seat.now c.requires.clerk
-    c.requires.number c.args.group c.turn_place-place.result c.args.was
-    c.requires.group c.turn_place-place.ensures.value c.requires.was c.requires.open_claim
+    clears_group (stands c.self.view_is c.self.invariant) c.requires.clerk c.requires.number c.args.group
+    c.turn_place-place.result c.args.was c.requires.group c.turn_place-place.ensures.value c.requires.was
+    c.requires.open_claim
 
 pub returns-clause-clerk : goal.returns-clause-clerk
 returns-clause-clerk c = let next = c.store.new.seat in

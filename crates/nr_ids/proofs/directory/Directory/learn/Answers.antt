@@ -4,9 +4,9 @@ use Rattle.nr_ids.proofs.directory.Directory.learn.Goals as goal
 
 pub load-requires : goal.load-requires
 load-requires c =
-    let about = stands _ _ _ _ c.self.view_is c.self.invariant in
+    let about = stands c.self.view_is c.self.invariant in
     let sizes = about.sizes in
-    looks_at_name _ _ _ about c.args.seat.now c.requires.caller 0 (omega arith)
+    looks_at_name about c.requires.caller 0 (omega arith)
 
 pub returns-clause-grows : goal.returns-clause-grows
 returns-clause-grows c = grows_by c.args.seat.now c.load.new.seat _ c.load.ensures.0 c.load.ensures.2.0 refl

@@ -5,8 +5,8 @@ use Rattle.nr_ids.proofs.directory.Directory.load_hints.Goals as goal
 
 pub load-requires : goal.load-requires
 load-requires c =
-    loads_word _ _ _ (stands _ _ _ _ c.self.view_is c.self.invariant) c.args.seat.now c.requires.caller
-    c.hints_place-place.result c.hints_place-place.ensures.inside
+    loads_word (stands c.self.view_is c.self.invariant) c.requires.caller c.hints_place-place.result
+    c.hints_place-place.ensures.inside
 
 pub returns-clause-grows : goal.returns-clause-grows
 returns-clause-grows c =

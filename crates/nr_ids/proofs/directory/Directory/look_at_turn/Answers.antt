@@ -5,8 +5,8 @@ use Rattle.nr_ids.proofs.directory.Directory.look_at_turn.Goals as goal
 
 pub load-requires : goal.load-requires
 load-requires c =
-    looks_at_turn _ _ _ (stands _ _ _ _ c.self.view_is c.self.invariant) c.args.seat.now c.requires.caller c.args.group
-    c.turn_place-place.result c.requires.group c.turn_place-place.ensures.value
+    looks_at_turn (stands c.self.view_is c.self.invariant) c.requires.caller c.args.group c.turn_place-place.result
+    c.requires.group c.turn_place-place.ensures.value
 
 pub returns-clause-grows : goal.returns-clause-grows
 returns-clause-grows c = grows_by c.args.seat.now c.load.new.seat _ c.load.ensures.0 c.load.ensures.2.0 refl

@@ -5,8 +5,8 @@ use Rattle.nr_ids.proofs.directory.Directory.marks.Goals as goal
 
 pub load-requires : goal.load-requires
 load-requires c =
-    loads_word _ _ _ (stands _ _ _ _ c.self.view_is c.self.invariant) c.args.seat.now c.requires.caller
-    c.marks_place-place.result c.marks_place-place.ensures.inside
+    loads_word (stands c.self.view_is c.self.invariant) c.requires.caller c.marks_place-place.result
+    c.marks_place-place.ensures.inside
 
 pub returns-clause-loads : goal.returns-clause-loads
 returns-clause-loads c =

@@ -4,8 +4,8 @@ use Rattle.nr_ids.proofs.directory.Directory.name.Goals as goal
 
 pub store-requires : goal.store-requires
 store-requires c =
-    names_way _ _ _ (stands _ _ _ _ c.self.view_is c.self.invariant) c.args.seat.now c.requires.clerk c.requires.number
-    c.args.way c.args.id c.requires.may
+    names_way (stands c.self.view_is c.self.invariant) c.requires.clerk c.requires.number c.args.way c.args.id
+    c.requires.may
 
 pub returns-clause-grows : goal.returns-clause-grows
 returns-clause-grows c =

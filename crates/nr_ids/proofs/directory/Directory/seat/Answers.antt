@@ -5,7 +5,7 @@ use Rattle.nr_ids.proofs.directory.Directory.seat.Goals as goal
 
 pub split_seat-requires : goal.split_seat-requires
 split_seat-requires c = let about = c.self.invariant in (
-  own_table _ _ _ (stands _ _ _ _ c.self.view_is about) c.args.seat.now c.requires.clerk,
+  own_table (stands c.self.view_is about) c.requires.clerk,
   omega arith,
   seats_so c.self.inside.table.shared.key c.args.seat.now.id c.args.seat.now.me.0 c.requires.clerk.calls
       c.requires.number,

@@ -5,7 +5,7 @@ use Rattle.nr_ids.proofs.directory.Directory.set_mark.Goals as goal
 
 pub fetch_or-requires : goal.fetch_or-requires
 fetch_or-requires c =
-    marks_way _ _ _ (stands _ _ _ _ c.self.view_is c.self.invariant) c.args.seat.now c.requires.caller c.args.way
+    marks_way (stands c.self.view_is c.self.invariant) c.requires.caller c.args.way
     c.marks_place-place.result (1 * 2 ^ (c.args.way % 8) % 2 ^ 64) c.requires.way c.marks_place-place.ensures.value
     (shifted_bit c.args.way)
 

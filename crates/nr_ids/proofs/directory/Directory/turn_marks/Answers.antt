@@ -6,9 +6,8 @@ use Rattle.nr_ids.proofs.directory.Directory.turn_marks.Goals as goal
 
 pub fetch_xor-requires : goal.fetch_xor-requires
 fetch_xor-requires c =
-    turns_group _ _ _ (stands _ _ _ _ c.self.view_is c.self.invariant) c.args.seat.now c.requires.clerk
-    c.requires.number c.args.group c.marks_place-place.result c.args.bits c.requires.group
-    c.marks_place-place.ensures.value c.requires.set
+    turns_group (stands c.self.view_is c.self.invariant) c.requires.clerk c.requires.number c.args.group
+    c.marks_place-place.result c.args.bits c.requires.group c.marks_place-place.ensures.value c.requires.set
 
 pub returns-clause-clerk : goal.returns-clause-clerk
 returns-clause-clerk c = let next = c.fetch_xor.new.seat in

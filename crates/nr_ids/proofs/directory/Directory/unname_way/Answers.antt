@@ -4,8 +4,7 @@ use Rattle.nr_ids.proofs.directory.Directory.unname_way.Goals as goal
 
 pub store-requires : goal.store-requires
 store-requires c =
-    unnames_way _ _ _ (stands _ _ _ _ c.self.view_is c.self.invariant) c.args.seat.now c.requires.clerk
-    c.requires.number c.args.way c.requires.way
+    unnames_way (stands c.self.view_is c.self.invariant) c.requires.clerk c.requires.number c.args.way c.requires.way
 
 pub returns-clause-grows : goal.returns-clause-grows
 returns-clause-grows c =

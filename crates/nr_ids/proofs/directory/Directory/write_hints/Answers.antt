@@ -6,9 +6,8 @@ use Rattle.nr_ids.proofs.directory.Directory.write_hints.Goals as goal
 
 pub store-requires : goal.store-requires
 store-requires c =
-    writes_group _ _ _ (stands _ _ _ _ c.self.view_is c.self.invariant) c.args.seat.now c.requires.clerk
-    c.requires.number c.args.group c.hints_place-place.result c.args.hints c.requires.group
-    c.hints_place-place.ensures.value c.requires.keeps
+    writes_group (stands c.self.view_is c.self.invariant) c.requires.clerk c.requires.number c.args.group
+    c.hints_place-place.result c.args.hints c.requires.group c.hints_place-place.ensures.value c.requires.keeps
 
 pub returns-clause-clerk : goal.returns-clause-clerk
 returns-clause-clerk c = let next = c.store.new.seat in
