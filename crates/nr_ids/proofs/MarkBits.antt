@@ -1,6 +1,6 @@
 -- Use bits: what an or and an exclusive or make of them, and that a set one stays until the clerk turns it over.
 use Rattle.std.proofs.Common.{◌≡◌, ◌≢◌, ℕ, zero, suc, ◌+◌, ◌*◌, ◌/◌, ◌%◌, ◌^◌, ◌<◌, ◌≤◌, ◌⊎◌, zero-mul, List, [], ◌∷◌}
-use Rattle.std.proofs.Common.{◌++◌, sym, ap, ◌∙◌, subst, arith, bit_and, bit_or, bit_xor}
+use Rattle.std.proofs.Common.{◌++◌, sym, ap, ◌∙◌, subst, arith, bit_and, bit_or, bit_xor, Bool, true, false, cond, ◌==◌}
 use mathlib.Core.Logic.{dite}
 use native.Mathlib.Decide.{ℕ_discrete}
 use Rattle.std.specs.Int.{bit_at}
@@ -13,7 +13,7 @@ use Rattle.nr_ids.specs.Groups.{group_of_way}
 use Rattle.nr_ids.specs.Events.{Event, Touch, touched, marked, turned, maker, own, mark_bit, marks_after, marks_of}
 use Rattle.nr_ids.specs.Events.{AreMarked, HasMark, IsLegal, IsMarked, May, MayTouch}
 use Rattle.nr_ids.specs.Marks.{ChoosesPlace, begin_of, bits_from, place_after}
-use Rattle.nr_ids.proofs.Logs.{cond_same, cond_else, own_none}
+use Rattle.nr_ids.proofs.Logs.{own_none}
 
 -- a way by its group and its bit
 pub same_way : (way other : ℕ) → group_of_way way ≡ group_of_way other → mark_bit way ≡ mark_bit other → way ≡ other
@@ -50,9 +50,11 @@ bit_unset marks place low none = unmarked marks place (λ on.
     absurd (omega (arith, one, pow_pos place)))
 
 -- a set bit stays set by an or
-pub or_keeps : (marks bits place : ℕ) → HasMark marks place → HasMark (bit_or marks bits) place
-or_keeps marks bits place set = let low = bit_at-lt bits place in
+pub or_keeps : (b : Bool) (marks bits place : ℕ) → HasMark marks place
+    → HasMark (cond b (bit_or marks bits) marks) place
+or_keeps true marks bits place set = let low = bit_at-lt bits place in
     bit_at_or marks bits place ∙ omega (arith, set, low)
+or_keeps false marks bits place set = set
 
 pub quiet_mark : (plan : Plan) (rest log : List Event) (group place : ℕ) → own 0 rest ≡ [] → IsLegal plan (rest ++ log)
     → HasMark (marks_of log group) place → HasMark (marks_of (rest ++ log) group) place
@@ -64,13 +66,8 @@ quiet_mark plan (event ∷ rest) log group place quiet legal set =
     by_touch : (by : ℕ) (touch : Touch) → by ≢ 0 → MayTouch plan (rest ++ log) by touch
         → HasMark (marks_of (rest ++ log) group) place
         → HasMark (marks_after touch group (marks_of (rest ++ log) group)) place
-    by_touch by (marked way) other may here = let marks = marks_of (rest ++ log) group in
-        dite (ℕ_discrete (group_of_way way) group)
-        (λ (e : group_of_way way ≡ group).
-        subst (λ (n : ℕ). HasMark n place) (sym (cond_same (bit_or marks (mark_bit way)) marks (way / 8) group e))
-        (or_keeps marks (mark_bit way) place here))
-        (λ ne. subst (λ (n : ℕ). HasMark n place)
-        (sym (cond_else (bit_or marks (mark_bit way)) marks (way / 8) group ne)) here)
+    by_touch by (marked way) other may here =
+        or_keeps (group_of_way way == group) (marks_of (rest ++ log) group) (mark_bit way) place here
     by_touch by (turned of bits) other may here = absurd (other may.0)
     by_touch by touch other may here = here
 

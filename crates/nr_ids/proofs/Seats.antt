@@ -387,6 +387,15 @@ grows_by old next event table goes by = let is = goes.next_is in record {
   steps = ap (λ (v : View). v.steps) is;
 }
 
+-- and the seat stays one of its directory
+pub sits_on : {now : Opened} {old next : Caller} {event : Event} → Sits now old → next.table_id ≡ old.table_id
+    → Goes event old.me.0 next.me.0 → Sits now next
+sits_on {next = next} sits table goes = let is = goes.next_is in record {
+  own = (λ j. record { id = table j; plan = (is j).plan }) ∙ sits.own;
+  calls = ap (λ (v : View). v.calls) is ∙ sits.calls;
+  legal = subst (λ (d : Opened). IsLegal d.plan next.me.0.seen) sits.own goes.legal;
+}
+
 pub claims_by : (old next : Caller) (id : ℕ) → next.table_id ≡ old.table_id
     → Goes (claimed old.me.0.number id) old.me.0 next.me.0 → WinsClaim id [] (token old) (token next)
 claims_by old next id table goes = let seen = ap (λ (v : View). v.seen) goes.next_is in record {

@@ -1,6 +1,6 @@
 -- A way's bit among its group's marks tells whether it was marked since its mark was taken last.
 use Rattle.std.proofs.Common.{◌≡◌, ◌≢◌, ℕ, ◌/◌, ◌%◌, ◌^◌, ◌==◌, cond, List, [], ◌∷◌, sym, ap, ◌∙◌, arith, bit_or}
-use Rattle.std.proofs.Common.{bit_xor}
+use Rattle.std.proofs.Common.{bit_xor, Bool, true, false, refl}
 use mathlib.Core.Logic.{dite}
 use native.Mathlib.Decide.{ℕ_discrete}
 use Rattle.std.specs.Int.{bit_at}
@@ -10,6 +10,7 @@ use Rattle.nr_ids.specs.Groups.{group_of_way}
 use Rattle.nr_ids.specs.Events.{Event, Touch, touched, marked, turned, mark_bit, marks_after, marks_of, MayTouch}
 use Rattle.nr_ids.specs.Laws.{MarksTell, use_after, use_of}
 use Rattle.nr_ids.proofs.Logs.{cond_same, cond_else}
+use Rattle.std.proofs.lemmas.Bool.{eqb-true}
 
 abbrev bit_in : ℕ → ℕ → ℕ
 bit_in marks way = bit_at marks (way % 8)
@@ -40,25 +41,18 @@ marked_bit other way marks used was =
     ∙ was ∙ sym (cond_else 1 used other way ne)))
 
 -- the clerk takes those that are set
-turned_bit : (group bits way marks used : ℕ)
-    → (group ≡ group_of_way way → bit_at bits (way % 8) ≡ 1 → bit_at marks (way % 8) ≡ 1) → bit_in marks way ≡ used
-    → bit_in (cond (group == group_of_way way) (bit_xor marks bits) marks) way
-    ≡ cond (group == group_of_way way) (cond (bit_at bits (way % 8) == 1) 0 used) used
-turned_bit group bits way marks used may was =
+turned_bit : (b : Bool) (bits way marks used : ℕ)
+    → (b ≡ true → bit_at bits (way % 8) ≡ 1 → bit_at marks (way % 8) ≡ 1) → bit_in marks way ≡ used
+    → bit_in (cond b (bit_xor marks bits) marks) way ≡ cond b (cond (bit_at bits (way % 8) == 1) 0 used) used
+turned_bit true bits way marks used may was =
     let few = bit_at-lt marks (way % 8) in
     let bit = bit_at-lt bits (way % 8) in
-    let both = bit_at_xor marks bits (way % 8) in
-    let taken : ℕ = cond (bit_at bits (way % 8) == 1) 0 used in
-    dite (ℕ_discrete group (way / 8))
-    (λ (e : group ≡ way / 8).
-    ap (λ (n : ℕ). bit_in n way) (cond_same (bit_xor marks bits) marks group (way / 8) e) ∙ both
+    bit_at_xor marks bits (way % 8)
     ∙ dite (ℕ_discrete (bit_at bits (way % 8)) 1)
     (λ (on : bit_at bits (way % 8) ≡ 1).
-    let set = may e on in omega (arith, set, on) ∙ sym (cond_same 0 used (bit_at bits (way % 8)) 1 on))
+    let set = may refl on in omega (arith, set, on) ∙ sym (cond_same 0 used (bit_at bits (way % 8)) 1 on))
     (λ off. omega (arith, few, bit, off) ∙ was ∙ sym (cond_else 0 used (bit_at bits (way % 8)) 1 off))
-    ∙ sym (cond_same taken used group (way / 8) e))
-    (λ ne. ap (λ (n : ℕ). bit_in n way) (cond_else (bit_xor marks bits) marks group (way / 8) ne)
-    ∙ was ∙ sym (cond_else taken used group (way / 8) ne))
+turned_bit false bits way marks used may was = was
 
 touch_tells : (plan : Plan) (log : List Event) (by : ℕ) (touch : Touch) (way : ℕ) → MayTouch plan log by touch
     → bit_in (marks_of log (group_of_way way)) way ≡ use_of log way
@@ -67,8 +61,9 @@ touch_tells : (plan : Plan) (log : List Event) (by : ℕ) (touch : Touch) (way :
 touch_tells plan log by (marked other) way may was =
     marked_bit other way (marks_of log (group_of_way way)) (use_of log way) was
 touch_tells plan log by (turned group bits) way may was =
-    turned_bit group bits way (marks_of log (group_of_way way)) (use_of log way)
-    (λ e on. ap (λ (g : ℕ). bit_in (marks_of log g) way) (sym e) ∙ may.2 (way % 8) (omega arith) on) was
+    turned_bit (group == group_of_way way) bits way (marks_of log (group_of_way way)) (use_of log way)
+    (λ same on. ap (λ (g : ℕ). bit_in (marks_of log g) way) (sym (eqb-true group (group_of_way way) same))
+    ∙ may.2 (way % 8) (omega arith) on) was
 touch_tells plan log by touch way may was = was
 
 pub marks_tell : MarksTell

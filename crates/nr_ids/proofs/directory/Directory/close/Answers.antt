@@ -1,7 +1,5 @@
 use Rattle.std.proofs.Common.{rules, sym}
-use Rattle.nr_ids.specs.Events.{cleared}
-use Rattle.nr_ids.specs.Plays.{Goes}
-use Rattle.nr_ids.proofs.Seats.{clears_group, grows_by, stands}
+use Rattle.nr_ids.proofs.Seats.{clears_group, grows_by, stands, sits_on}
 use Rattle.nr_ids.proofs.directory.Directory.close.Goals as goal
 
 pub store-requires : goal.store-requires
@@ -11,9 +9,7 @@ store-requires c =
     c.requires.open_claim
 
 pub returns-clause-clerk : goal.returns-clause-clerk
-returns-clause-clerk c = let next = c.store.new.seat in
-    let goes : Goes (cleared c.args.group) c.args.seat.now.me.0 next.me.0
-    = c.store.ensures.2 c.args.group (search rules) in search rules
+returns-clause-clerk c = sits_on c.requires.clerk c.store.ensures.0 (c.store.ensures.2 c.args.group (search rules))
 
 pub returns-clause-grows : goal.returns-clause-grows
 returns-clause-grows c =

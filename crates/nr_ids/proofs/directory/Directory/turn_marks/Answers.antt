@@ -1,7 +1,5 @@
 use Rattle.std.proofs.Common.{rules, refl}
-use Rattle.nr_ids.specs.Events.{touched, turned}
-use Rattle.nr_ids.specs.Plays.{Goes}
-use Rattle.nr_ids.proofs.Seats.{grows_by, stands, turns_group}
+use Rattle.nr_ids.proofs.Seats.{grows_by, stands, turns_group, sits_on}
 use Rattle.nr_ids.proofs.directory.Directory.turn_marks.Goals as goal
 
 pub fetch_xor-requires : goal.fetch_xor-requires
@@ -10,10 +8,8 @@ fetch_xor-requires c =
     c.marks_place-place.result c.args.bits c.requires.group c.marks_place-place.ensures.value c.requires.set
 
 pub returns-clause-clerk : goal.returns-clause-clerk
-returns-clause-clerk c = let next = c.fetch_xor.new.seat in
-    let goes : Goes (touched c.args.seat.now.me.0.number (turned c.args.group c.args.bits)) c.args.seat.now.me.0
-    next.me.0
-    = c.fetch_xor.ensures.2 c.args.group (search rules) in search rules
+returns-clause-clerk c =
+    sits_on c.requires.clerk c.fetch_xor.ensures.0 (c.fetch_xor.ensures.2 c.args.group (search rules))
 
 pub returns-clause-turns : goal.returns-clause-turns
 returns-clause-turns c =
