@@ -1,6 +1,6 @@
 use Rattle.std.proofs.Common.{◌≡◌, rules, subst, ◌∙◌, Ok, Err, None, Some}
 use Rattle.nr_ids.specs.declared.admissions.Refused.TheVariants as refused
-use Rattle.nr_ids.specs.Answers.{Admits}
+use Rattle.nr_ids.specs.Answers.{Admits, LooksForClaim, LooksOn}
 use Rattle.nr_ids.specs.Events.{MayName, turn_of}
 use Rattle.nr_ids.specs.Looking.{group_for}
 use Rattle.nr_ids.specs.Tokens.{Opened, Token, token}
@@ -16,6 +16,9 @@ invariant_of-clerk-in-Some c = let turn = c.look_at_turn-turn.ensures in
     scanned_clerk c.args.id (Some c.in-Some.way) (looked_clerk 1 c.clerk.invariant turn.caller turn.grows)
     c.scan.ensures.caller c.in-Some.ensures.scans
 
+pub returns-in-Some-clause-answer : goal.returns-in-Some-clause-answer
+returns-in-Some-clause-answer c = search rules
+
 pub room_for-requires-clause-hints : goal.room_for-requires-clause-hints
 room_for-requires-clause-hints c = let turn = c.look_at_turn-turn.ensures in
     (scanned_clerk c.args.id None (looked_clerk 1 c.clerk.invariant turn.caller turn.grows) c.scan.ensures.caller
@@ -30,20 +33,16 @@ invariant_of-clerk-in_default-room_for c = let turn = c.look_at_turn-turn.ensure
 
 pub returns-in_default-room_for-clause-answer : goal.returns-in_default-room_for-clause-answer
 returns-in_default-room_for-clause-answer c =
+    let old = token c.clerk.inside.seat in
+    let scanned = token c.scan.new.seat in
     let turn = c.look_at_turn-turn in
     let full = c.in_default-room_for.ensures.rooms in
-    subst (λ (t : Token). Admits c.args.id t (token c.room_for.new.seat) (Err refused.Full)) c.clerk.view_is (
-      record {
-        scanned = token c.scan.new.seat;
-        looks_for = record {
-          turned = token turn.new.seat;
-          turn = turn.ensures.grows;
-          both = c.in_default.ensures.scans.looks;
-        };
-        others = full.0;
-      },
-      full.1,
-    )
+    let looks_for : LooksForClaim c.args.id old scanned
+    = record { turned = token turn.new.seat; turn = turn.ensures.grows; both = c.in_default.ensures.scans.looks } in
+    let looks : LooksOn c.args.id 2 old (token c.room_for.new.seat)
+    = record { scanned = scanned; looks_for = looks_for; others = full.0 } in
+    subst (λ (t : Token). Admits c.args.id t (token c.room_for.new.seat) (Err refused.Full)) c.clerk.view_is
+    (looks, full.1)
 
 pub name-requires-clause-may : goal.name-requires-clause-may
 name-requires-clause-may c =
