@@ -1,16 +1,16 @@
 -- The code of `handle` in each type of handle: it lends the word as a `Handle`, and the handle follows it. Assumes
 -- `Logic`.
 --     function       the code, at what stands behind its references
---     Alike S T      the row S of a handle, and that what one owns in memory the `Handle` with the row T owns, and back
-use mathlib.Core.Path.{◌≡◌, refl}
+--     there, back    what a handle owns in memory the `Handle` owns that it is lent as, and back
+use mathlib.Core.Path.{◌≡◌, ◌∙◌, ap, refl, subst}
 use Prim.Native.Nat.{ℕ}
 use mathlib.Core.List.{[], ◌∷◌}
 use seplogic.Ra.Ura.{Ura}
 use mir.Syntax.{Fn, Ty, named, erased, mut, ty_ptr, ty_ref, local, value_local, place, deref, copy, rv_opd, addr_of}
 use mir.Syntax.{seq, assign, block, return}
 use mir.Val.{Val, vptr}
-use base.Logic.{SProp, ent, sep, emp, via, fst∗}
-use base.Fml.{Lft, GName, Share, ftrue, flft}
+use base.Logic.{SProp, ent, sep, emp, id⊢, via, fst∗}
+use base.Fml.{Fml, Lft, GName, Share, ftrue, flft}
 use prog.Model.{Model}
 use prog.Routine.{Callee}
 use prog.Wp.{Env, Calls, Closed, Loops, WpFn, Tables}
@@ -37,6 +37,9 @@ use denote.Triple.Walked.{says, Stays, stay_dropped, walk_of, ends_at, walked, w
 use denote.Exit.{no}
 use denote.Follow.{follows, Part, lends_Part}
 use Rattle.std.proofs.VecSteps.Shapes.{after}
+use Rattle.nr_c.specs.HandleFollows.{Named}
+use Rattle.nr_c.specs.contracts.handle.Handle.{the_row}
+use Rattle.nr_c.specs.declared.handle.Handle.{Handle}
 
 abbrev pub function : Ty → Ty → Ty → Ty → Fn
 function t u w v =
@@ -56,24 +59,28 @@ function t u w v =
           (seq (assign (place 0 []) (rv_opd (copy (place 3 [])))) return));
     }
 
-abbrev pub There : (S T : RattleType) → (S.Denot → T.Denot) → Type 2
-There S T to =
-    (M : Type 1) (𝓤 : Ura M) (𝓛 : Logic 𝓤) (s : S.Denot) (b o : ℕ)
-    → ent 𝓤 (sem 𝓛 ((mem S).own_at s b o)) (sem 𝓛 ((mem T).own_at (to s) b o))
+module _ (N : Named) (is : (s : N.row.Denot) → s ≡ N.of (N.to s))
+    (owns_same : (h : Handle N.side.Denot) (b o : ℕ) → (mem N.row).own_at (N.of h) b o
+    ≡ (mem (the_row N.side)).own_at h b o)
+    (t u w v : Ty) where
+  abbrev S : RattleType
+  S = N.row
 
-abbrev pub Back : (S T : RattleType) → (T.Denot → S.Denot) → Type 2
-Back S T of =
-    (M : Type 1) (𝓤 : Ura M) (𝓛 : Logic 𝓤) (b o : ℕ) (h : T.Denot)
-    → ent 𝓤 (sep 𝓤 (sem 𝓛 ((mem T).own_at h b o)) (sem 𝓛 ftrue)) (sem 𝓛 ((mem S).own_at (of h) b o))
+  abbrev T : RattleType
+  T = the_row N.side
 
-pub record Alike (S T : RattleType) : Type 2 where
-  pub of : T.Denot → S.Denot
-  pub to : S.Denot → T.Denot
-  pub is : (s : S.Denot) → s ≡ of (to s)
-  pub there : There S T to
-  pub back : Back S T of
+  there : {M : Type 1} {𝓤 : Ura M} (𝓛 : Logic 𝓤) (s : S.Denot) (b o : ℕ)
+      → ent 𝓤 (sem 𝓛 ((mem S).own_at s b o)) (sem 𝓛 ((mem T).own_at (N.to s) b o))
+  there {𝓤 = 𝓤} 𝓛 s b o =
+      subst (λ (F : Fml). ent 𝓤 (sem 𝓛 ((mem S).own_at s b o)) (sem 𝓛 F))
+      (ap (λ (h : S.Denot). (mem S).own_at h b o) (is s) ∙ owns_same (N.to s) b o) (id⊢ 𝓤 _)
 
-module _ {S T : RattleType} (I : Alike S T) (t u w v : Ty) where
+  back : {M : Type 1} {𝓤 : Ura M} (𝓛 : Logic 𝓤) (b o : ℕ) (h : T.Denot)
+      → ent 𝓤 (sep 𝓤 (sem 𝓛 ((mem T).own_at h b o)) (sem 𝓛 ftrue)) (sem 𝓛 ((mem S).own_at (N.of h) b o))
+  back {𝓤 = 𝓤} 𝓛 b o h =
+      subst (λ (F : Fml). ent 𝓤 (sep 𝓤 (sem 𝓛 F) (sem 𝓛 ftrue)) (sem 𝓛 ((mem S).own_at (N.of h) b o)))
+      (owns_same h b o) (fst∗ 𝓤 (sem 𝓛 ((mem S).own_at (N.of h) b o)) (sem 𝓛 ftrue))
+
   abbrev code : Fn
   code = function t u w v
 
@@ -97,7 +104,7 @@ module _ {S T : RattleType} (I : Alike S T) (t u w v : Ty) where
       record {
         ghost = Unit {0};
         requires = λ _. emp 𝓤;
-        ensures = λ _ r _. sep 𝓤 (sem 𝓛 (follows S T a.0.ghost_name r.ghost_name I.of)) (fact 𝓤 (a.0.now ≡ I.of r.now));
+        ensures = λ _ r _. sep 𝓤 (sem 𝓛 (follows S T a.0.ghost_name r.ghost_name N.of)) (fact 𝓤 (a.0.now ≡ N.of r.now));
       }
 
   module _ {M : Type 1} {𝓤 : Ura M} (𝓛 : Logic 𝓤) (κ : Lft) (q : Share) (rb ro : ℕ) (γ : GName) (s : S.Denot) where
@@ -116,23 +123,23 @@ module _ {S T : RattleType} (I : Alike S T) (t u w v : Ty) where
         → ent 𝓤
         (sep 𝓤
         (sem 𝓛
-        ((MutRef (named 0) κ T).own_val (record { ref_ptr = (rb, ro); ghost_name = γ'; now = I.to s })
+        ((MutRef (named 0) κ T).own_val (record { ref_ptr = (rb, ro); ghost_name = γ'; now = N.to s })
         (vptr rb ro ∷ [])))
-        (sep 𝓤 (A.lft κ q) (sem 𝓛 (follows S T γ γ' I.of))))
+        (sep 𝓤 (A.lft κ q) (sem 𝓛 (follows S T γ γ' N.of))))
         (Post (vptr rb ro))
     exits γ' =
         qed 𝓛
-        (‵ ((MutRef (named 0) κ T).own_val (record { ref_ptr = (rb, ro); ghost_name = γ'; now = I.to s })
+        (‵ ((MutRef (named 0) κ T).own_val (record { ref_ptr = (rb, ro); ghost_name = γ'; now = N.to s })
         (vptr rb ro ∷ []))
-        ∷ ‵ (flft κ q) ∷ ‵ (follows S T γ γ' I.of) ∷ [])
+        ∷ ‵ (flft κ q) ∷ ‵ (follows S T γ γ' N.of) ∷ [])
         ∵
         suffices
         ! _
         (ends_at 𝓛 ended stayed (spec 𝓛) bound (vptr rb ro)
-        (record { ref_ptr = (rb, ro); ghost_name = γ'; now = I.to s }) (tt, tt) (tt, tt))
+        (record { ref_ptr = (rb, ro); ghost_name = γ'; now = N.to s }) (tt, tt) (tt, tt))
         $
         nothing ! $ nothing ! $ fjoin ! $ join ! $ nothing ! $ move ! (2 ∷ 0 ∷ []) $ join ! $ join ! $ frame ! $ says
-        ! (I.is s) $ done !
+        ! (is s) $ done !
 
     module _ (C : Calls 𝓤 H) (Λ : Loops 𝓤 H) where
       walk : ent 𝓤
@@ -151,7 +158,7 @@ module _ {S T : RattleType} (I : Alike S T) (t u w v : Ty) where
           let En : Env 𝓤 H = env code.locals l in
           move ! (1 ∷ []) $ fsplit ! $ fsplit3 ! $ drop ! $ move ! (3 ∷ []) $ split ! $ move ! (2 ∷ 3 ∷ 0 ∷ []) $
           open_ref ! tt (mem S) {x = s} {b = rb} {o = ro} $
-          use1 𝓛 (‵ ((mem T).own_at (I.to s) rb ro)) (I.there M 𝓤 𝓛 s rb ro) $
+          use1 𝓛 (‵ ((mem T).own_at (N.to s) rb ro)) (there 𝓛 s rb ro) $
           sets ! (addr ! (through ! refl (stop !))) refl (tt, tt) $
           first ! $ blocks ! $
           sets ! (of_opd ! (get ! refl)) refl (tt, tt) $
@@ -163,9 +170,9 @@ module _ {S T : RattleType} (I : Alike S T) (t u w v : Ty) where
           (later
           (some
           (λ (γ' : GName). raw
-          (Part 𝓛 S T I.of (named 0) κ q rb ro rb ro γ (sem 𝓛 ftrue) (I.back M 𝓤 𝓛 rb ro) (I.to s) γ'))))
-          (lends_Part 𝓛 S T I.of (named 0) κ q rb ro rb ro γ (sem 𝓛 ftrue) (I.back M 𝓤 𝓛 rb ro) (S.coded.code s)
-          (S.coded.code s) (I.to s))
+          (Part 𝓛 S T N.of (named 0) κ q rb ro rb ro γ (sem 𝓛 ftrue) (back 𝓛 rb ro) (N.to s) γ'))))
+          (lends_Part 𝓛 S T N.of (named 0) κ q rb ro rb ro γ (sem 𝓛 ftrue) (back 𝓛 rb ro) (S.coded.code s)
+          (S.coded.code s) (N.to s))
           $ await ! tt $ pick ! (λ γ'.
           returns ! (look_at ! 0 refl) $ free_all ! refl $
           keep ! (0 ∷ []) $ by ! (exits γ')))

@@ -1,4 +1,5 @@
 pub mod HandleBox
+pub mod HandleMet
 pub mod HandleLent
 pub mod HandleSend
 pub mod FindsMade
@@ -9,6 +10,5 @@ pub mod LedgerLemmas
 pub mod ClosingSteps
 pub mod LiveHandles
 pub mod RowsAllowed
-pub mod SidesTurned
 pub mod KeptUpqueries
 pub mod HandlesOpened

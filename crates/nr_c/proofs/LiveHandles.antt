@@ -1,9 +1,8 @@
--- What a call by a live handle says once it has asked whether it is live: why it is refused, or that it may go on.
-use Rattle.std.proofs.Common.{◌≡◌, ◌∙◌, ◌⊎◌, ℕ, ◌<◌, ◌≤◌, List, [], ◌∷◌, ap, arith, inl, inr, refl, sym}
+-- What a call by a live handle says once it has asked whether it is live: why it is refused, or what it makes of the
+-- side that the handle leads to.
+use Rattle.std.proofs.Common.{◌≡◌, ◌∙◌, ◌⊎◌, ℕ, ◌<◌, List, [], ◌∷◌, ap, arith, inl, inr, refl, sym}
 use Rattle.std.specs.Prelude.{◌≢◌}
-use Rattle.nr_c.specs.IdLive.{RefusesZero}
-use Rattle.nr_c.specs.Live.{HasKey, IsLive, RefusesHand, RefusesKey}
-use Rattle.nr_c.specs.Numbers.{answer_no_key}
+use Rattle.nr_c.specs.Live.{IsLive, Leads, Refuses, Turns}
 
 -- a handle that is live is so as the `Handle` that it is lent as
 pub still_live : {Handle Side : Type 0} (live : Handle → List Side) {one other : Handle} → one ≡ other
@@ -14,28 +13,39 @@ module _ {Handle Side : Type 0} (live : Handle → List Side) {asked before : Ha
   pub led : {side : Side} → live asked ≡ side ∷ [] → live before ≡ side ∷ []
   led is = ap live (sym same) ∙ is
 
-  pub zero : {number answer : ℕ} {stays : Type 0} → IsLive (live asked) → number ≡ 0 → stays
-      → RefusesZero answer number stays (live before) (live asked) answer
-  zero (side, is) none stay = (refl, none, stay, (side, led is), ap live same)
-
-  pub is_zero : {Closed Does stays : Type 0} {number answer : ℕ} → IsLive (live asked) → number ≡ 0 → stays
-      → Closed ⊎ (RefusesZero answer number stays (live before) (live asked) answer ⊎ Does)
-  is_zero lives none stay = inr (inl (zero lives none stay))
-
   module _ {side : Side} (is : live asked ≡ side ∷ []) where
-    pub lacks_key : {Closed Does stays : Type 0} {keys : Side → ℕ} {key : ℕ} → stays → keys side ≤ key
-        → Closed ⊎ (RefusesKey keys key stays (live before) (side ∷ []) answer_no_key ⊎ Does)
-    lacks_key stay above =
-        inr (inl (record { code_is = refl; stay = stay; held = side; was = led is; is = refl; above = above }))
+    pub refuses : {why : Side → Type 0} {stays : Type 0} {answer code : ℕ} → code ≡ answer → stays → why side
+        → Refuses answer why stays (live before) (side ∷ []) code
+    refuses code_is stay so =
+        record { code_is = code_is; stay = stay; held = side; was = led is; is = refl; so = so }
 
-    pub has_key : {Closed Lacks Does : Type 0} {keys : Side → ℕ} {key : ℕ} → key < keys side → Does
-        → Closed ⊎ (Lacks ⊎ (HasKey keys key (live before) × Does))
-    has_key below does = inr (inr (record { held = side; was = led is; below = below }, does))
+    pub lacks_key : {Closed Does stays : Type 0} {why : Side → Type 0} {answer : ℕ} → stays → why side
+        → Closed ⊎ (Refuses answer why stays (live before) (side ∷ []) answer ⊎ Does)
+    lacks_key stay so = inr (inl (refuses refl stay so))
 
-    pub refuses_hand : {kind : Side → Type 0} {stays : Type 0} {answer code : ℕ} → code ≡ answer → stays → kind side
-        → RefusesHand kind answer stays (live before) (side ∷ []) code
-    refuses_hand code_is stay hand =
-        record { code_is = code_is; stay = stay; held = side; was = led is; is = refl; hand = hand }
+    pub has_key : {Closed Lacks Does : Type 0} {has : Side → Type 0} → has side → Does
+        → Closed ⊎ (Lacks ⊎ (Leads has (live before) × Does))
+    has_key so does = inr (inr (record { held = side; was = led is; so = so }, does))
+
+    pub turns : {new : Side} {stays became : Side → Side → Type 0} → stays side new → became side new
+        → Turns stays became (live before) (new ∷ [])
+    turns {new = new} stay made =
+        record { old = side; new = new; was = led is; is = refl; stay = stay; made = made }
+
+    pub turns_at : {Closed Lacks : Type 0} {has : Side → Type 0} {new : Side} {stays became : Side → Side → Type 0}
+        → has side → stays side new → became side new
+        → Closed ⊎ (Lacks ⊎ (Leads has (live before) × Turns stays became (live before) (new ∷ [])))
+    turns_at so stay made = has_key so (turns stay made)
+
+  -- a refusal that isn't for the side that the handle leads to, as of the number 0
+  pub refused : {why stays : Type 0} {answer : ℕ} → IsLive (live asked) → why → stays
+      → Refuses answer (λ (_ : Side). why) stays (live before) (live asked) answer
+  refused (side, is) so stay =
+      record { code_is = refl; stay = stay; held = side; was = led is; is = is; so = so }
+
+  pub is_refused : {Closed Does why stays : Type 0} {answer : ℕ} → IsLive (live asked) → why → stays
+      → Closed ⊎ (Refuses answer (λ (_ : Side). why) stays (live before) (live asked) answer ⊎ Does)
+  is_refused lives so stay = inr (inl (refused lives so stay))
 
 pub above_zero : {number : ℕ} → number ≢ 0 → 0 < number
 above_zero other = omega arith

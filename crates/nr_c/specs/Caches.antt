@@ -26,26 +26,19 @@ use Rattle.nr_c.specs.declared.cache_looks.NrCacheCounts.{NrCacheCounts}
 use Rattle.nr_c.specs.declared.cache_side.CacheSide.{CacheSide}
 use Rattle.nr_c.specs.Codes.{reaped_code, reclaimed_code}
 use Rattle.nr_c.specs.IdLive.{WithId, WithNumber}
-use Rattle.nr_c.specs.Live.{WhenLive}
+use Rattle.nr_c.specs.Live.{Call, Turns, WhenLive}
 use Rattle.nr_c.specs.Numbers.{answer_bad_row, answer_done, answer_evicted, answer_full, answer_hole, answer_nothing}
 use Rattle.nr_c.specs.Numbers.{answer_other, answer_own, answer_rows, answer_send, answer_waiting}
 
 -- the handle leads to one side, of the same map, whose store made the call; its readers without a handle stay, and it
 -- isn't closed
-pub record CacheCalls (became : StoreSeen → StoreSeen → ℕ → Type 0) (before after : List CacheSide) (code : ℕ) : Type
-    0 where
-  pub old : CacheSide
-  pub new : CacheSide
-  pub was : before ≡ old ∷ []
-  pub is : after ≡ new ∷ []
-  pub map : new.map ≡ old.map
-  pub watch : new.watch ≡ old.watch
-  pub spare : new.spare ≡ old.spare
-  pub made : became old.store new.store code
+abbrev pub CacheCalls : (StoreSeen → StoreSeen → ℕ → Type 0) → Call CacheSide
+CacheCalls became before after code =
+    Turns (λ old new. (new.map ≡ old.map) × (new.watch ≡ old.watch) × (new.spare ≡ old.spare))
+    (λ old new. became old.store new.store code) before after
 
 -- a call that brings a value of an id: it is refused for the id 0, and then for the stamp 0
-abbrev pub BringsToCache : ℕ → ℕ → Type 0 → (StoreSeen → StoreSeen → ℕ → Type 0) → List CacheSide → List CacheSide → ℕ
-    → Type 0
+abbrev pub BringsToCache : ℕ → ℕ → Type 0 → (StoreSeen → StoreSeen → ℕ → Type 0) → Call CacheSide
 BringsToCache id stamp stays does =
     WhenLive stays (WithId id stays (WithNumber answer_bad_row stamp stays (CacheCalls does)))
 

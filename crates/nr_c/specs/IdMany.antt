@@ -11,7 +11,7 @@ use Rattle.nr_c.specs.declared.id_reader_side.IdReaderSide.{IdReaderSide}
 use Rattle.nr_c.specs.Closings.{Hears, Watched}
 use Rattle.nr_c.specs.Hands.{HoldsNoId}
 use Rattle.nr_c.specs.IdCodes.{found_id_code}
-use Rattle.nr_c.specs.Live.{IsLive}
+use Rattle.nr_c.specs.Live.{Call, Turns, Unless}
 use Rattle.nr_c.specs.Many.{InOrder}
 use Rattle.nr_c.specs.Numbers.{answer_done, answer_no_key}
 use Rattle.nr_c.specs.RowCells.{ShowsSet}
@@ -26,11 +26,10 @@ Seeking = IdHanded × List (Option NamedWay)
 abbrev pub Seeker : Type 0
 Seeker = Seeking × Watched
 
--- before the first of sixteen each of these was looked up, of those that are left; the others' ways stay
-abbrev pub LooksUpIds : Bool → List NrWantedId → Seeking → Seeking → Type 0
-LooksUpIds true left (old, ways) (new, looked) =
-    LooksAhead (ids_wanted (take 16 left)) (take (length (take 16 left)) looked) old new
-LooksUpIds false left (old, ways) (new, looked) = (new ≡ old) × (looked ≡ ways)
+-- before the first of sixteen each of these ids was looked up; the others' ways stay
+abbrev pub LooksUpIds : Bool → List ℕ → Seeking → Seeking → Type 0
+LooksUpIds true ids (old, ways) (new, looked) = LooksAhead ids (take (length ids) looked) old new
+LooksUpIds false ids (old, ways) (new, looked) = (new ≡ old) × (looked ≡ ways)
 
 -- a find of one of the ids in its way, by a hand that keeps what it finds, whose answer is told beside the id unless
 -- the writer was closed
@@ -42,7 +41,7 @@ FindsOneId at wanted told (old, knew) (new, knows) =
 -- of that at an index, with the look-ups before it
 abbrev pub FindsIdAt : ℕ → List NrWantedId → NrWantedId → NrWantedId → Seeker → Seeker → Type 0
 FindsIdAt place left wanted told (old, knew) ((new, ways), knows) =
-    (ready : IdHanded) × LooksUpIds (place % 16 == 0) left old (ready, ways)
+    (ready : IdHanded) × LooksUpIds (place % 16 == 0) (ids_wanted (take 16 left)) old (ready, ways)
     × (at : Option NamedWay) × (slice_get ways (place % 16) ≡ Some at)
     × FindsOneId at wanted told (ready, knew) (new, knows)
 
@@ -53,26 +52,19 @@ FindsEachByCode wanted told (old, knew) (new, knows) =
     × LetsGoById last.0 new
 
 -- of all of them, by a reader's handle
-pub record FindsSomeIds (wanted told : List NrWantedId) (before after : List IdReaderSide) (code : ℕ) : Type 0 where
-  pub code_is : code ≡ answer_done
-  pub old : IdReaderSide
-  pub new : IdReaderSide
-  pub was : before ≡ old ∷ []
-  pub is : after ≡ new ∷ []
-  pub map : new.map ≡ old.map
-  pub was_idle : HoldsNoId old.hand
-  pub finds : FindsEachByCode wanted told (old.hand, old.watch) (new.hand, new.watch)
+abbrev pub FindsManyIds : (IdHanded × Watched → IdHanded × Watched → Type 0) → Call IdReaderSide
+FindsManyIds finds before after code =
+    (code ≡ answer_done)
+    × Turns (λ old new. new.map ≡ old.map)
+    (λ old new. HoldsNoId old.hand × finds (old.hand, old.watch) (new.hand, new.watch)) before after
+
+abbrev pub FindsSomeIds : List NrWantedId → List NrWantedId → Call IdReaderSide
+FindsSomeIds wanted told = FindsManyIds (FindsEachByCode wanted told)
 
 abbrev pub AreIds : List NrWantedId → Type 0
 AreIds wanted = All (λ one. 0 < one.id) wanted
 
--- one of them is 0, which the code says, and nothing has changed
-abbrev pub RefusesZeros : Type 0 → Type 0 → List IdReaderSide → List IdReaderSide → ℕ → Type 0
-RefusesZeros are_ids stays before after code =
-    (code ≡ answer_no_key) × ¬ are_ids × stays × IsLive before × (after ≡ before)
-
 -- a call with ids: it is refused where one of them is 0, and else does what it does
-abbrev pub WithIds : Type 0 → Type 0 → (List IdReaderSide → List IdReaderSide → ℕ → Type 0) → List IdReaderSide
-    → List IdReaderSide → ℕ → Type 0
-WithIds are_ids stays does before after code =
-    RefusesZeros are_ids stays before after code ⊎ (are_ids × does before after code)
+abbrev pub WithIds : Type 0 → Type 0 → Call IdReaderSide → Call IdReaderSide
+WithIds are_ids stays does =
+    Unless answer_no_key (λ _. ¬ are_ids) stays (λ before after code. are_ids × does before after code)

@@ -5,26 +5,18 @@ use Rattle.nr_model.specs.declared.rows.Row.{Row}
 use Rattle.nr_idmap.specs.declared.finds.FoundId.{FoundId}
 use Rattle.nr_idmap.specs.declared.finds.NamedWay.{NamedWay}
 use Rattle.nr_idmap.specs.IdHands.{IdHanded, LetsGoById}
-use Rattle.nr_idmap.specs.IdLoads.{LooksAhead}
 use Rattle.nr_idmap.specs.IdWalks.{FindsFirstOn}
 use Rattle.nr_c.specs.declared.id_many_first.NrFoundId.{NrFoundId}
 use Rattle.nr_c.specs.declared.id_reader_side.IdReaderSide.{IdReaderSide}
 use Rattle.nr_c.specs.Closings.{Hears, Watched}
-use Rattle.nr_c.specs.Hands.{HoldsNoId}
 use Rattle.nr_c.specs.IdCodes.{found_id_code}
-use Rattle.nr_c.specs.IdMany.{Seeker, Seeking}
+use Rattle.nr_c.specs.IdMany.{FindsManyIds, LooksUpIds, Seeker, Seeking}
+use Rattle.nr_c.specs.Live.{Call}
 use Rattle.nr_c.specs.Many.{InOrder}
 use Rattle.nr_c.specs.ManyFirst.{part_of, with_part}
-use Rattle.nr_c.specs.Numbers.{answer_done}
 
 abbrev pub ids_found : List NrFoundId → List ℕ
 ids_found wanted = map (λ (one : NrFoundId). one.id) wanted
-
--- before the first of sixteen each of these was looked up, of those that are left; the others' ways stay
-abbrev pub LooksUpFound : Bool → List NrFoundId → Seeking → Seeking → Type 0
-LooksUpFound true left (old, ways) (new, looked) =
-    LooksAhead (ids_found (take 16 left)) (take (length (take 16 left)) looked) old new
-LooksUpFound false left (old, ways) (new, looked) = (new ≡ old) × (looked ≡ ways)
 
 -- a find of one of the ids in its way, into its part of the rows, by a hand that keeps what it finds
 abbrev pub FindsIdFirst : Option NamedWay → NrFoundId → NrFoundId → List Row → List Row → IdHanded × Watched
@@ -37,7 +29,7 @@ FindsIdFirst at wanted told before cells (old, knew) (new, knows) =
 abbrev pub FindsIdAtFirst : ℕ → ℕ → List NrFoundId → NrFoundId → NrFoundId → Seeker × List Row → Seeker × List Row
     → Type 0
 FindsIdAtFirst room place left wanted told ((old, knew), rows) (((new, ways), knows), after) =
-    (ready : IdHanded) × LooksUpFound (place % 16 == 0) left old (ready, ways)
+    (ready : IdHanded) × LooksUpIds (place % 16 == 0) (ids_found (take 16 left)) old (ready, ways)
     × (at : Option NamedWay) × (slice_get ways (place % 16) ≡ Some at)
     × (cells : List Row) × FindsIdFirst at wanted told (part_of room place rows) cells (ready, knew) (new, knows)
     × (after ≡ with_part room place cells rows)
@@ -53,16 +45,8 @@ pub record FindsEachIdFirst (wanted told : List NrFoundId) (rows after : List Ro
   pub lets_go : LetsGoById last.0 new.0
 
 -- by a reader's handle
-pub record FindsIdsFirst (wanted told : List NrFoundId) (rows cells : List Row) (before after : List IdReaderSide)
-    (code : ℕ) : Type 0 where
-  pub code_is : code ≡ answer_done
-  pub old : IdReaderSide
-  pub new : IdReaderSide
-  pub was : before ≡ old ∷ []
-  pub is : after ≡ new ∷ []
-  pub map : new.map ≡ old.map
-  pub was_idle : HoldsNoId old.hand
-  pub finds : FindsEachIdFirst wanted told rows cells (old.hand, old.watch) (new.hand, new.watch)
+abbrev pub FindsIdsFirst : List NrFoundId → List NrFoundId → List Row → List Row → Call IdReaderSide
+FindsIdsFirst wanted told rows cells = FindsManyIds (FindsEachIdFirst wanted told rows cells)
 
 abbrev pub AreFoundIds : List NrFoundId → Type 0
 AreFoundIds wanted = All (λ one. 0 < one.id) wanted

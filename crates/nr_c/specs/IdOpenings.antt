@@ -1,5 +1,5 @@
 -- What opens a map over ids and its handles.
-use Rattle.std.specs.Prelude.{ℕ, ◌≡◌, ◌↔◌, ◌⊎◌, List, [], ◌∷◌, ◌++◌}
+use Rattle.std.specs.Prelude.{ℕ, ◌≡◌, List, [], ◌∷◌}
 use Rattle.nr_idmap.specs.declared.id_map.IdShape.{IdShape}
 use Rattle.nr_idmap.specs.IdHands.{idle_by_id}
 use Rattle.nr_idmap.specs.IdOpenings.{IsBadIdShape, OpensIds}
@@ -11,7 +11,9 @@ use Rattle.nr_c.specs.Closings.{Closes, IsNewWatch}
 use Rattle.nr_c.specs.Endings.{Ends, EndsShare}
 use Rattle.nr_c.specs.Hands.{EndsIdHand}
 use Rattle.nr_c.specs.Ledgers.{no_entries}
-use Rattle.nr_c.specs.Numbers.{answer_bad_size, answer_done, answer_no_memory, answer_no_reader}
+use Rattle.nr_c.specs.Live.{CallOfTwo, OpensSide}
+use Rattle.nr_c.specs.Numbers.{answer_no_reader}
+use Rattle.nr_c.specs.Spares.{KeepsSpare, LeadsTo, TakesLast}
 
 abbrev pub id_shape_of : NrIdShape → IdShape
 id_shape_of shape =
@@ -31,50 +33,29 @@ pub record IsNewIdWriter (shape : IdShape) (number : ℕ) (side : IdWriterSide) 
   pub none_kept : side.ledger ≡ no_entries number side.map.value.map.shape.keys
   pub watch : IsNewWatch side.watch
 
--- the handle leads to the side of a new map, or nowhere
-abbrev pub LeadsToIds : IdShape → ℕ → List IdWriterSide → ℕ → Type 0
-LeadsToIds shape number after code =
-    ((code ≡ answer_done) × (side : IdWriterSide) × (after ≡ side ∷ []) × IsNewIdWriter shape number side)
-    ⊎ (((code ≡ answer_bad_size) ⊎ (code ≡ answer_no_memory)) × (after ≡ []))
-
--- an opening by its code: sizes out of their limits are refused
+-- an opening by its code
 abbrev pub OpensIdMap : IdShape → ℕ → List IdWriterSide → ℕ → Type 0
-OpensIdMap shape number after code =
-    ((code ≡ answer_bad_size) ↔ IsBadIdShape shape) × LeadsToIds shape number after code
+OpensIdMap shape number = OpensSide (IsNewIdWriter shape number) (IsBadIdShape shape)
 
 -- the writer's handle leads to one side, of the same map, with the same writer and upqueries, and these readers have no
 -- handle
-pub record KeepsIdWriter (before after : List IdWriterSide) (had has : List IdCaller) : Type 0 where
-  pub old : IdWriterSide
-  pub new : IdWriterSide
-  pub was : before ≡ old ∷ []
-  pub is : after ≡ new ∷ []
-  pub map : new.map ≡ old.map
-  pub writer : new.writer ≡ old.writer
-  pub ledger : new.ledger ≡ old.ledger
-  pub watch : new.watch ≡ old.watch
-  pub had_spare : old.spare.items ≡ had
-  pub has_spare : new.spare.items ≡ has
+abbrev pub KeepsIdWriter : List IdWriterSide → List IdWriterSide → List IdCaller → List IdCaller → Type 0
+KeepsIdWriter =
+    KeepsSpare (λ (side : IdWriterSide). side.spare.items)
+    (λ old new. (new.map ≡ old.map) × (new.writer ≡ old.writer) × (new.ledger ≡ old.ledger)
+    × (new.watch ≡ old.watch))
 
 -- the reader's handle leads to the side of that reader, of the writer's map
-pub record LeadsToIdReader (before : List IdWriterSide) (reader : IdCaller) (handle : List IdReaderSide) : Type 0 where
-  pub held : IdWriterSide
-  pub side : IdReaderSide
-  pub was : before ≡ held ∷ []
-  pub is : handle ≡ side ∷ []
-  pub map : side.map.value ≡ held.map.value
-  pub holds_none : side.hand ≡ idle_by_id reader
-  pub word : side.watch.word ≡ held.watch.word
-  pub watch : IsNewWatch side.watch
+abbrev pub LeadsToIdReader : List IdWriterSide → IdCaller → List IdReaderSide → Type 0
+LeadsToIdReader before reader =
+    LeadsTo
+    (λ (held : IdWriterSide) (side : IdReaderSide). (side.map.value ≡ held.map.value)
+    × (side.hand ≡ idle_by_id reader) × (side.watch.word ≡ held.watch.word) × IsNewWatch side.watch) before
 
 -- no reader is without a handle; or the last one without gets one, or for want of memory stays without
-abbrev pub TakesIdReader : List IdWriterSide → List IdReaderSide → List IdWriterSide → List IdReaderSide → ℕ → Type 0
-TakesIdReader before other after handle code =
-    ((code ≡ answer_no_reader) × KeepsIdWriter before after [] [] × (handle ≡ other))
-    ⊎ ((code ≡ answer_done) × (rest : List IdCaller) × (reader : IdCaller)
-    × KeepsIdWriter before after (rest ++ reader ∷ []) rest × LeadsToIdReader before reader handle)
-    ⊎ ((code ≡ answer_no_memory) × (rest : List IdCaller) × (reader : IdCaller)
-    × KeepsIdWriter before after (rest ++ reader ∷ []) (rest ++ reader ∷ []) × (handle ≡ other))
+abbrev pub TakesIdReader : CallOfTwo IdWriterSide IdReaderSide
+TakesIdReader before other after handle =
+    TakesLast answer_no_reader (KeepsIdWriter before after) (λ reader. LeadsToIdReader before reader handle) (handle ≡ other)
 
 -- the reader that a handle led to ended, having let go what it held, and its share of the map
 abbrev pub EndsIdReader : List IdReaderSide → Type 0

@@ -1,5 +1,5 @@
 -- What a call from C keeps of a handle, and what its token gains.
-use Rattle.std.specs.Prelude.{ℕ, ◌+◌, ◌≡◌, ◌<◌, ◌≤◌, ◌⊎◌, Bool, MatchBool, List, [], ◌∷◌, None, ⊤}
+use Rattle.std.specs.Prelude.{ℕ, ◌+◌, ◌≡◌, ◌↔◌, ◌<◌, ◌≤◌, ◌⊎◌, Bool, MatchBool, List, [], ◌∷◌, None, ⊤}
 use Rattle.nr_map.specs.declared.answers.Asked.{Asked}
 use Rattle.nr_map.specs.declared.answers.Asked.TheVariants as asked
 use Rattle.nr_board.specs.declared.answers.Found.{Found}
@@ -12,8 +12,16 @@ use Rattle.nr_c.specs.declared.rows.NrRows.{NrRows}
 use Rattle.nr_c.specs.Closings.{Hears, Looks, Watched}
 use Rattle.nr_c.specs.Codes.{ask_code, found_code}
 use Rattle.nr_c.specs.Hands.{HoldsNone, HoldsSome}
-use Rattle.nr_c.specs.Numbers.{answer_closed, answer_holding, answer_live, answer_no_key, answer_not_holding}
+use Rattle.nr_c.specs.Numbers.{answer_bad_size, answer_closed, answer_done, answer_holding, answer_live, answer_no_key}
+use Rattle.nr_c.specs.Numbers.{answer_no_memory, answer_not_holding}
 use Rattle.nr_c.specs.RowCells.{ShowsSet}
+
+-- what a call says of its handle: what that led to and leads to, and the code; and of two handles
+abbrev pub Call : Type 0 → Type 1
+Call Side = List Side → List Side → ℕ → Type 0
+
+abbrev pub CallOfTwo : Type 0 → Type 0 → Type 1
+CallOfTwo One Other = List One → List Other → List One → List Other → ℕ → Type 0
 
 -- the handle leads somewhere
 abbrev pub IsLive : {Side : Type 0} → List Side → Type 0
@@ -27,25 +35,29 @@ pub record RefusesClosed {Side : Type 0} (stays : Type 0) (before after : List S
   pub is : after ≡ []
 
 -- a call by a handle: it is refused where that isn't live, and else does what it does
-abbrev pub WhenLive : {Side : Type 0} → Type 0 → (List Side → List Side → ℕ → Type 0) → List Side → List Side → ℕ
-    → Type 0
+abbrev pub WhenLive : {Side : Type 0} → Type 0 → Call Side → Call Side
 WhenLive stays does before after code = RefusesClosed stays before after code ⊎ does before after code
 
 -- a call by two handles is refused where one of them isn't live
-abbrev pub WhenBothLive : {One Other : Type 0} → (List One → List Other → List One → List Other → ℕ → Type 0) → List One
-    → List Other → List One → List Other → ℕ → Type 0
+abbrev pub WhenBothLive : {One Other : Type 0} → CallOfTwo One Other → CallOfTwo One Other
 WhenBothLive does one other one' other' code =
     ((code ≡ answer_closed) × ((one ≡ []) ⊎ (other ≡ [])) × (one' ≡ one) × (other' ≡ other))
     ⊎ (IsLive one × IsLive other × does one other one' other' code)
 
 -- an opening of a handle that isn't live: it is refused else
-abbrev pub WhenEmpty : {Side : Type 0} → (List Side → ℕ → Type 0) → List Side → List Side → ℕ → Type 0
+abbrev pub WhenEmpty : {Side : Type 0} → (List Side → ℕ → Type 0) → Call Side
 WhenEmpty does before after code =
     ((code ≡ answer_live) × IsLive before × (after ≡ before)) ⊎ ((before ≡ []) × does after code)
 
+-- an opening by its code: sizes out of their limits are refused, and the handle leads to a new side, or nowhere
+abbrev pub OpensSide : {Side : Type 0} → (Side → Type 0) → Type 0 → List Side → ℕ → Type 0
+OpensSide {Side = Side} is_new are_bad after code =
+    ((code ≡ answer_bad_size) ↔ are_bad)
+    × (((code ≡ answer_done) × (side : Side) × (after ≡ side ∷ []) × is_new side)
+    ⊎ (((code ≡ answer_bad_size) ⊎ (code ≡ answer_no_memory)) × (after ≡ [])))
+
 -- an opening by a handle that is live, of another that isn't: it is refused else
-abbrev pub WhenOther : {One Other : Type 0} → (List One → List Other → List One → List Other → ℕ → Type 0) → List One
-    → List Other → List One → List Other → ℕ → Type 0
+abbrev pub WhenOther : {One Other : Type 0} → CallOfTwo One Other → CallOfTwo One Other
 WhenOther does one other one' other' code =
     ((code ≡ answer_closed) × (one ≡ []) × (one' ≡ one) × (other' ≡ other))
     ⊎ ((code ≡ answer_live) × IsLive one × IsLive other × (one' ≡ one) × (other' ≡ other))
@@ -64,100 +76,85 @@ reader_keys side = side.map.value.shape.keys
 abbrev pub writer_keys : WriterSide → ℕ
 writer_keys side = side.map.value.shape.keys
 
--- there is no such key, which the code says; the handle leads to what it led to, and what it would tell stays
-pub record RefusesKey {Side : Type 0} (keys : Side → ℕ) (key : ℕ) (stays : Type 0) (before after : List Side)
-    (code : ℕ) : Type 0 where
-  pub code_is : code ≡ answer_no_key
-  pub stay : stays
-  pub held : Side
-  pub was : before ≡ held ∷ []
-  pub is : after ≡ held ∷ []
-  pub above : keys held ≤ key
-
-pub record HasKey {Side : Type 0} (keys : Side → ℕ) (key : ℕ) (before : List Side) : Type 0 where
-  pub held : Side
-  pub was : before ≡ held ∷ []
-  pub below : key < keys held
-
--- a call with a key: it is refused where there is no such key, and else does what it does
-abbrev pub WithKey : {Side : Type 0} → (Side → ℕ) → ℕ → Type 0 → (List Side → List Side → ℕ → Type 0) → List Side
-    → List Side → ℕ → Type 0
-WithKey keys key stays does before after code =
-    RefusesKey keys key stays before after code ⊎ (HasKey keys key before × does before after code)
-
--- the reader isn't as the call wants it, which the code says; nothing has changed
-pub record RefusesHand {Side : Type 0} (kind : Side → Type 0) (answer : ℕ) (stays : Type 0) (before after : List Side)
+-- the handle leads to a side of which this holds, so the call is refused, which the code says; nothing has changed
+pub record Refuses {Side : Type 0} (answer : ℕ) (why : Side → Type 0) (stays : Type 0) (before after : List Side)
     (code : ℕ) : Type 0 where
   pub code_is : code ≡ answer
   pub stay : stays
   pub held : Side
   pub was : before ≡ held ∷ []
   pub is : after ≡ held ∷ []
-  pub hand : kind held
+  pub so : why held
 
--- a call of a reader that holds nothing: it is refused where the reader holds a set
-abbrev pub WhenIdle : Type 0 → (List ReaderSide → List ReaderSide → ℕ → Type 0) → List ReaderSide → List ReaderSide → ℕ
-    → Type 0
-WhenIdle stays does before after code =
-    RefusesHand (λ (side : ReaderSide). HoldsSome side.hand) answer_holding stays before after code
-    ⊎ does before after code
+abbrev pub Unless : {Side : Type 0} → ℕ → (Side → Type 0) → Type 0 → Call Side → Call Side
+Unless answer why stays does before after code = Refuses answer why stays before after code ⊎ does before after code
 
--- a call of a reader that holds a set: it is refused where the reader holds nothing
-abbrev pub WhenHolding : Type 0 → (List ReaderSide → List ReaderSide → ℕ → Type 0) → List ReaderSide → List ReaderSide
-    → ℕ → Type 0
-WhenHolding stays does before after code =
-    RefusesHand (λ (side : ReaderSide). HoldsNone side.hand) answer_not_holding stays before after code
-    ⊎ does before after code
+-- the handle leads to a side of which this holds
+pub record Leads {Side : Type 0} (has : Side → Type 0) (before : List Side) : Type 0 where
+  pub held : Side
+  pub was : before ≡ held ∷ []
+  pub so : has held
+
+-- a call with a key: it is refused where there is no such key, and else does what it does
+abbrev pub WithKey : {Side : Type 0} → (Side → ℕ) → ℕ → Type 0 → Call Side → Call Side
+WithKey keys key stays does =
+    Unless answer_no_key (λ held. keys held ≤ key) stays
+    (λ before after code. Leads (λ held. key < keys held) before × does before after code)
+
+-- a call of a reader that holds nothing, and of one that holds a set: it is refused by the other
+abbrev pub WhenIdle : Type 0 → Call ReaderSide → Call ReaderSide
+WhenIdle = Unless answer_holding (λ (side : ReaderSide). HoldsSome side.hand)
+
+abbrev pub WhenHolding : Type 0 → Call ReaderSide → Call ReaderSide
+WhenHolding = Unless answer_not_holding (λ (side : ReaderSide). HoldsNone side.hand)
 
 -- a call with a key by a live reader that holds nothing; where it is refused, this stays
-abbrev pub ByIdleReader : ℕ → Type 0 → (List ReaderSide → List ReaderSide → ℕ → Type 0) → List ReaderSide
-    → List ReaderSide → ℕ → Type 0
+abbrev pub ByIdleReader : ℕ → Type 0 → Call ReaderSide → Call ReaderSide
 ByIdleReader key stays does = WhenLive stays (WithKey reader_keys key stays (WhenIdle stays does))
 
--- the handle leads to one side, of the same map before and after, whose reader was in the one hand and is in the other,
--- and what it knows of its writer
-pub record TurnsSide (heard : Watched → Watched → Type 0) (before after : List ReaderSide) (was is : Handed) : Type
-    0 where
-  pub old : ReaderSide
-  pub new : ReaderSide
-  pub led : before ≡ old ∷ []
-  pub leads : after ≡ new ∷ []
-  pub map : new.map ≡ old.map
-  pub old_hand : old.hand ≡ was
-  pub new_hand : new.hand ≡ is
-  pub watch : heard old.watch new.watch
-
--- by a call that doesn't look whether the writer was closed, and by a find, whose answer is told unless it was
-abbrev pub TurnsHand : List ReaderSide → List ReaderSide → Handed → Handed → Type 0
-TurnsHand before after was is = TurnsSide (λ old new. new ≡ old) before after was is
-
-abbrev pub HearsHand : ℕ → ℕ → List ReaderSide → List ReaderSide → Handed → Handed → Type 0
-HearsHand answer code before after was is = TurnsSide (Hears answer code) before after was is
-
--- so a reader that holds nothing became another such one
-abbrev pub ReaderHears : (Caller → Caller → ℕ → Type 0) → List ReaderSide → List ReaderSide → ℕ → Type 0
-ReaderHears became before after code =
-    (answer : ℕ) × (old new : Handed) × HearsHand answer code before after old new × HoldsNone old × HoldsNone new
-    × became old.reader new.reader answer
-
--- by a request, which isn't made where the writer was closed, and then what it would tell stays
-abbrev pub ReaderAsks : Type 0 → (Caller → Caller → ℕ → Type 0) → List ReaderSide → List ReaderSide → ℕ → Type 0
-ReaderAsks stays became before after code =
-    (closed : Bool) × (old new : Handed) × TurnsSide (λ old new. Looks old new closed) before after old new
-    × HoldsNone old × HoldsNone new
-    × MatchBool closed ((code ≡ answer_closed) × (new ≡ old) × stays) (became old.reader new.reader code)
-
--- and the writer's, whose readers without a handle stay, and which isn't closed
-pub record WriterCalls (became : Caller → Caller → ℕ → Type 0) (before after : List WriterSide) (code : ℕ) : Type
-    0 where
-  pub old : WriterSide
-  pub new : WriterSide
+-- the handle leads to one side, before and after, of which so much stays, and which became the other
+pub record Turns {Side : Type 0} (stays became : Side → Side → Type 0) (before after : List Side) : Type 0 where
+  pub old : Side
+  pub new : Side
   pub was : before ≡ old ∷ []
   pub is : after ≡ new ∷ []
-  pub map : new.map ≡ old.map
-  pub watch : new.watch ≡ old.watch
-  pub spare : new.spare ≡ old.spare
-  pub made : became old.writer new.writer code
+  pub stay : stays old new
+  pub made : became old new
+
+-- a reader's, of the same map, whose hand became another, and what it knows of its writer
+abbrev pub HandTurns : (Watched → Watched → Type 0) → (Handed → Handed → Type 0) → List ReaderSide → List ReaderSide
+    → Type 0
+HandTurns heard became =
+    Turns (λ old new. (new.map ≡ old.map) × heard old.watch new.watch) (λ old new. became old.hand new.hand)
+
+-- by a call that doesn't look whether the writer was closed, and by a find, whose answer is told unless it was
+abbrev pub TurnsHand : (Handed → Handed → Type 0) → List ReaderSide → List ReaderSide → Type 0
+TurnsHand = HandTurns (λ old new. new ≡ old)
+
+abbrev pub HearsHand : ℕ → ℕ → (Handed → Handed → Type 0) → List ReaderSide → List ReaderSide → Type 0
+HearsHand answer code = HandTurns (Hears answer code)
+
+-- so a reader that holds nothing became another such one
+abbrev pub ReaderHears : (Caller → Caller → ℕ → Type 0) → Call ReaderSide
+ReaderHears became before after code =
+    (answer : ℕ)
+    × HearsHand answer code (λ old new. HoldsNone old × HoldsNone new × became old.reader new.reader answer) before
+    after
+
+-- by a request, which isn't made where the writer was closed, and then what it would tell stays
+abbrev pub ReaderAsks : Type 0 → (Caller → Caller → ℕ → Type 0) → Call ReaderSide
+ReaderAsks stays became before after code =
+    (closed : Bool)
+    × HandTurns (λ old new. Looks old new closed)
+    (λ old new. HoldsNone old × HoldsNone new
+    × MatchBool closed ((code ≡ answer_closed) × (new ≡ old) × stays) (became old.reader new.reader code))
+    before after
+
+-- and the writer's, whose readers without a handle stay, and which isn't closed
+abbrev pub WriterCalls : (Caller → Caller → ℕ → Type 0) → Call WriterSide
+WriterCalls became before after code =
+    Turns (λ old new. (new.map ≡ old.map) × (new.watch ≡ old.watch) × (new.spare ≡ old.spare))
+    (λ old new. became old.writer new.writer code) before after
 
 -- a find by its code: the caller's cells show the rows of the reply, and stay as they are on a hole; the reader holds
 -- nothing

@@ -9,7 +9,7 @@ use Rattle.nr_c.specs.Hands.{HoldsNone}
 use Rattle.nr_c.specs.RowCells.{ShowsSet}
 use Rattle.nr_c.specs.declared.many.NrWanted.{NrWanted}
 use Rattle.nr_c.specs.declared.reader_side.ReaderSide.{ReaderSide}
-use Rattle.nr_c.specs.Live.{reader_keys}
+use Rattle.nr_c.specs.Live.{Call, Leads, Turns, Unless, reader_keys}
 use Rattle.nr_c.specs.Numbers.{answer_done, answer_no_key}
 
 -- a reader's hand with what the reader knows of its writer
@@ -26,11 +26,11 @@ FindsOneByCode wanted told (old, knew) (new, knows) =
 abbrev pub keys_wanted : List NrWanted → List ℕ
 keys_wanted wanted = map (λ (one : NrWanted). one.key) wanted
 
--- before the first of sixteen the loads for each of them, of these that are left; the hand holds what it held
-abbrev pub LoadsKeysAhead : Bool → List NrWanted → Handed → Handed → Type 0
-LoadsKeysAhead true left old new =
-    LoadsAhead (keys_wanted (take 16 left)) old.reader new.reader × (new.key ≡ old.key) × (new.rows ≡ old.rows)
-LoadsKeysAhead false left old new = new ≡ old
+-- before the first of sixteen the loads for each of them, whose keys these are; the hand holds what it held
+abbrev pub LoadsKeysAhead : Bool → List ℕ → Handed → Handed → Type 0
+LoadsKeysAhead true keys old new =
+    LoadsAhead keys old.reader new.reader × (new.key ≡ old.key) × (new.rows ≡ old.rows)
+LoadsKeysAhead false keys old new = new ≡ old
 
 -- calls for those of a list from that index on, one after another: each is told what is left of the list, and makes of
 -- its first one another
@@ -45,7 +45,7 @@ InOrder call place (one ∷ others) [] old new = ⊥
 -- the find of the key at an index, before it the loads for each of sixteen where sixteen begin there
 abbrev pub FindsAtByCode : ℕ → List NrWanted → NrWanted → NrWanted → Hearing → Hearing → Type 0
 FindsAtByCode place left wanted told (old, knew) new =
-    (loaded : Handed) × LoadsKeysAhead (place % 16 == 0) left old loaded
+    (loaded : Handed) × LoadsKeysAhead (place % 16 == 0) (keys_wanted (take 16 left)) old loaded
     × FindsOneByCode wanted told (loaded, knew) new
 
 -- from the first key on, and then what the last find holds is let go
@@ -54,37 +54,21 @@ FindsEachByCode wanted told old (new, knows) =
     (last : Handed) × InOrder FindsAtByCode 0 wanted told old (last, knows) × LetsGo last new
 
 -- by a reader's handle
-pub record FindsSome (wanted told : List NrWanted) (before after : List ReaderSide) (code : ℕ) : Type 0 where
-  pub code_is : code ≡ answer_done
-  pub old : ReaderSide
-  pub new : ReaderSide
-  pub was : before ≡ old ∷ []
-  pub is : after ≡ new ∷ []
-  pub map : new.map ≡ old.map
-  pub was_idle : HoldsNone old.hand
-  pub finds : FindsEachByCode wanted told (old.hand, old.watch) (new.hand, new.watch)
+abbrev pub FindsMany : (Hearing → Hearing → Type 0) → Call ReaderSide
+FindsMany finds before after code =
+    (code ≡ answer_done)
+    × Turns (λ old new. new.map ≡ old.map)
+    (λ old new. HoldsNone old.hand × finds (old.hand, old.watch) (new.hand, new.watch)) before after
+
+abbrev pub FindsSome : List NrWanted → List NrWanted → Call ReaderSide
+FindsSome wanted told = FindsMany (FindsEachByCode wanted told)
 
 -- the map of the handle's reader has each of the keys
 abbrev pub AreKeysOf : ReaderSide → List NrWanted → Type 0
 AreKeysOf held wanted = All (λ one. one.key < reader_keys held) wanted
 
--- it lacks one, which the code says; the handle leads to what it led to, and what the call would tell stays
-pub record RefusesKeys (are_keys : ReaderSide → Type 0) (stays : Type 0) (before after : List ReaderSide) (code : ℕ)
-    : Type 0 where
-  pub code_is : code ≡ answer_no_key
-  pub stay : stays
-  pub held : ReaderSide
-  pub was : before ≡ held ∷ []
-  pub is : after ≡ held ∷ []
-  pub lacks : ¬ (are_keys held)
-
-pub record HasKeys (are_keys : ReaderSide → Type 0) (before : List ReaderSide) : Type 0 where
-  pub held : ReaderSide
-  pub was : before ≡ held ∷ []
-  pub has : are_keys held
-
 -- a call with keys: it is refused where there is no such key as one of them, and else does what it does
-abbrev pub WithKeys : (ReaderSide → Type 0) → Type 0 → (List ReaderSide → List ReaderSide → ℕ → Type 0)
-    → List ReaderSide → List ReaderSide → ℕ → Type 0
-WithKeys are_keys stays does before after code =
-    RefusesKeys are_keys stays before after code ⊎ (HasKeys are_keys before × does before after code)
+abbrev pub WithKeys : (ReaderSide → Type 0) → Type 0 → Call ReaderSide → Call ReaderSide
+WithKeys are_keys stays does =
+    Unless answer_no_key (λ held. ¬ are_keys held) stays
+    (λ before after code. Leads are_keys before × does before after code)

@@ -4,12 +4,10 @@ use Rattle.std.specs.Prelude.{length, map, take, Option, Some, None}
 use Rattle.nr_model.specs.declared.rows.Row.{Row}
 use Rattle.nr_map.specs.FirstRows.{FindsFirst}
 use Rattle.nr_map.specs.Hands.{Handed, LetsGo}
-use Rattle.nr_map.specs.LoadsAhead.{LoadsAhead}
 use Rattle.nr_c.specs.Closings.{Hears}
-use Rattle.nr_c.specs.Hands.{HoldsNone}
-use Rattle.nr_c.specs.Live.{reader_keys}
-use Rattle.nr_c.specs.Many.{Hearing, InOrder}
-use Rattle.nr_c.specs.Numbers.{answer_done, answer_hole, answer_rows}
+use Rattle.nr_c.specs.Live.{Call, reader_keys}
+use Rattle.nr_c.specs.Many.{FindsMany, Hearing, InOrder, LoadsKeysAhead}
+use Rattle.nr_c.specs.Numbers.{answer_hole, answer_rows}
 use Rattle.nr_c.specs.declared.many_first.NrFound.{NrFound}
 use Rattle.nr_c.specs.declared.reader_side.ReaderSide.{ReaderSide}
 
@@ -38,16 +36,10 @@ FindsOneFirst wanted told before cells (old, knew) (new, knows) =
 abbrev pub keys_found : List NrFound → List ℕ
 keys_found wanted = map (λ (one : NrFound). one.key) wanted
 
--- before the first of sixteen the loads for each of them, of these that are left; the hand holds what it held
-abbrev pub LoadsFirstAhead : Bool → List NrFound → Handed → Handed → Type 0
-LoadsFirstAhead true left old new =
-    LoadsAhead (keys_found (take 16 left)) old.reader new.reader × (new.key ≡ old.key) × (new.rows ≡ old.rows)
-LoadsFirstAhead false left old new = new ≡ old
-
 -- the find of the key at an index, before it the loads for each of sixteen where sixteen begin there
 abbrev pub FindsAtFirst : ℕ → ℕ → List NrFound → NrFound → NrFound → Hearing × List Row → Hearing × List Row → Type 0
 FindsAtFirst room place left wanted told ((old, knew), rows) (new, after) =
-    (loaded : Handed) × LoadsFirstAhead (place % 16 == 0) left old loaded
+    (loaded : Handed) × LoadsKeysAhead (place % 16 == 0) (keys_found (take 16 left)) old loaded
     × (cells : List Row) × FindsOneFirst wanted told (part_of room place rows) cells (loaded, knew) new
     × (after ≡ with_part room place cells rows)
 
@@ -60,16 +52,8 @@ pub record FindsEachFirst (wanted told : List NrFound) (rows after : List Row) (
   pub lets_go : LetsGo last new.0
 
 -- by a reader's handle
-pub record FindsSomeFirst (wanted told : List NrFound) (rows cells : List Row) (before after : List ReaderSide)
-    (code : ℕ) : Type 0 where
-  pub code_is : code ≡ answer_done
-  pub old : ReaderSide
-  pub new : ReaderSide
-  pub was : before ≡ old ∷ []
-  pub is : after ≡ new ∷ []
-  pub map : new.map ≡ old.map
-  pub was_idle : HoldsNone old.hand
-  pub finds : FindsEachFirst wanted told rows cells (old.hand, old.watch) (new.hand, new.watch)
+abbrev pub FindsSomeFirst : List NrFound → List NrFound → List Row → List Row → Call ReaderSide
+FindsSomeFirst wanted told rows cells = FindsMany (FindsEachFirst wanted told rows cells)
 
 -- the map of the handle's reader has each of the keys
 abbrev pub AreFoundKeys : ReaderSide → List NrFound → Type 0

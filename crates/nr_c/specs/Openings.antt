@@ -1,5 +1,5 @@
 -- What opens a map and its handles.
-use Rattle.std.specs.Prelude.{ℕ, ◌≡◌, ◌↔◌, ◌⊎◌, List, [], ◌∷◌, ◌++◌}
+use Rattle.std.specs.Prelude.{ℕ, ◌≡◌, ◌⊎◌, List, [], ◌∷◌, ◌++◌}
 use Rattle.nr_core.specs.Sizes.{IsBadLargeShape, IsBadShape}
 use Rattle.nr_core.specs.declared.shape.Shape.{Shape}
 use Rattle.nr_board.specs.Callers.{Caller}
@@ -8,7 +8,9 @@ use Rattle.nr_map.specs.Opened.{IsOpened, words_of_large}
 use Rattle.nr_c.specs.Closings.{Closes, IsNewWatch}
 use Rattle.nr_c.specs.Endings.{Ends, EndsShare}
 use Rattle.nr_c.specs.Hands.{EndsHand}
-use Rattle.nr_c.specs.Numbers.{answer_bad_size, answer_done, answer_no_memory, answer_no_reader}
+use Rattle.nr_c.specs.Live.{CallOfTwo, OpensSide}
+use Rattle.nr_c.specs.Numbers.{answer_done, answer_no_memory, answer_no_reader}
+use Rattle.nr_c.specs.Spares.{KeepsSpare, LeadsTo, TakesLast}
 use Rattle.nr_c.specs.declared.reader_side.ReaderSide.{ReaderSide}
 use Rattle.nr_c.specs.declared.writer_side.WriterSide.{WriterSide}
 
@@ -17,56 +19,35 @@ pub record IsNewWriter (shape : Shape) (side : WriterSide) : Type 0 where
   pub opened : IsOpened shape (words_of_large shape) side.map.value side.writer side.spare.items
   pub watch : IsNewWatch side.watch
 
--- the handle leads to the side of a new map, or nowhere
-abbrev pub OpensMap : Shape → List WriterSide → ℕ → Type 0
-OpensMap shape after code =
-    ((code ≡ answer_done) × (side : WriterSide) × (after ≡ side ∷ []) × IsNewWriter shape side)
-    ⊎ (((code ≡ answer_bad_size) ⊎ (code ≡ answer_no_memory)) × (after ≡ []))
-
 -- the shape is out of a script's limits and of a large map's
 abbrev pub IsRefused : Shape → Type 0
 IsRefused shape = IsBadShape shape × IsBadLargeShape shape
 
--- an opening by its code: sizes out of their limits are refused, and the handle leads to the side of a new map, or
--- nowhere
+-- an opening by its code
 abbrev pub Opens : Shape → List WriterSide → ℕ → Type 0
-Opens shape after code = ((code ≡ answer_bad_size) ↔ IsRefused shape) × OpensMap shape after code
+Opens shape = OpensSide (IsNewWriter shape) (IsRefused shape)
 
 -- the writer's handle leads to one side, of the same map and with the same writer, and these readers have no handle
-pub record KeepsWriter (before after : List WriterSide) (had has : List Caller) : Type 0 where
-  pub old : WriterSide
-  pub new : WriterSide
-  pub was : before ≡ old ∷ []
-  pub is : after ≡ new ∷ []
-  pub map : new.map ≡ old.map
-  pub writer : new.writer ≡ old.writer
-  pub watch : new.watch ≡ old.watch
-  pub had_spare : old.spare.items ≡ had
-  pub has_spare : new.spare.items ≡ has
+abbrev pub KeepsWriter : List WriterSide → List WriterSide → List Caller → List Caller → Type 0
+KeepsWriter =
+    KeepsSpare (λ (side : WriterSide). side.spare.items)
+    (λ old new. (new.map ≡ old.map) × (new.writer ≡ old.writer) × (new.watch ≡ old.watch))
 
 -- the reader's handle leads to the side of that reader, of the writer's map, which holds nothing
-pub record LeadsToReader (before : List WriterSide) (reader : Caller) (handle : List ReaderSide) : Type 0 where
-  pub held : WriterSide
-  pub side : ReaderSide
-  pub was : before ≡ held ∷ []
-  pub is : handle ≡ side ∷ []
-  pub map : side.map.value ≡ held.map.value
-  pub holds_none : side.hand ≡ idle reader
-  pub word : side.watch.word ≡ held.watch.word
-  pub watch : IsNewWatch side.watch
+abbrev pub LeadsToReader : List WriterSide → Caller → List ReaderSide → Type 0
+LeadsToReader before reader =
+    LeadsTo
+    (λ (held : WriterSide) (side : ReaderSide). (side.map.value ≡ held.map.value) × (side.hand ≡ idle reader)
+    × (side.watch.word ≡ held.watch.word) × IsNewWatch side.watch) before
 
 -- no reader is without a handle; or the last one without gets one, or for want of memory stays without
-abbrev pub TakesReader : List WriterSide → List ReaderSide → List WriterSide → List ReaderSide → ℕ → Type 0
-TakesReader before other after handle code =
-    ((code ≡ answer_no_reader) × KeepsWriter before after [] [] × (handle ≡ other))
-    ⊎ ((code ≡ answer_done) × (rest : List Caller) × (reader : Caller)
-    × KeepsWriter before after (rest ++ reader ∷ []) rest × LeadsToReader before reader handle)
-    ⊎ ((code ≡ answer_no_memory) × (rest : List Caller) × (reader : Caller)
-    × KeepsWriter before after (rest ++ reader ∷ []) (rest ++ reader ∷ []) × (handle ≡ other))
+abbrev pub TakesReader : CallOfTwo WriterSide ReaderSide
+TakesReader before other after handle =
+    TakesLast answer_no_reader (KeepsWriter before after) (λ reader. LeadsToReader before reader handle) (handle ≡ other)
 
 -- the reader's handle leads nowhere any more, and its reader, which holds nothing now, is the last one without a
 -- handle; or for want of memory all stay
-abbrev pub ReturnsReader : List WriterSide → List ReaderSide → List WriterSide → List ReaderSide → ℕ → Type 0
+abbrev pub ReturnsReader : CallOfTwo WriterSide ReaderSide
 ReturnsReader before other after handle code =
     ((code ≡ answer_done) × (rest : List Caller) × (reader : Caller) × (held : ReaderSide) × (other ≡ held ∷ [])
     × EndsHand held.hand reader × EndsShare held.map held.watch

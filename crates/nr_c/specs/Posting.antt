@@ -9,30 +9,21 @@ use Rattle.nr_trigger.specs.declared.post.Upquery.{Upquery}
 use Rattle.nr_trigger.specs.Tokens.{IsSamePoster, IsSameTaker, PosterSeen, TakerSeen, WasEmpty, WasFull, poster_tried}
 use Rattle.nr_trigger.specs.Tokens.{taker_tried}
 use Rattle.nr_c.specs.Codes.{post_code, take_code}
+use Rattle.nr_c.specs.Live.{Call, Turns}
 use Rattle.nr_c.specs.Numbers.{answer_done}
 use Rattle.nr_c.specs.declared.poster_side.PosterSide.{PosterSide}
 use Rattle.nr_c.specs.declared.taker_side.TakerSide.{TakerSide}
 
 -- the handle leads to one side, of the same queue before and after, whose poster became another
-pub record PosterCalls (became : PosterSeen → PosterSeen → ℕ → Type 0) (before after : List PosterSide)
-    (code : ℕ) : Type 0 where
-  pub old : PosterSide
-  pub new : PosterSide
-  pub was : before ≡ old ∷ []
-  pub is : after ≡ new ∷ []
-  pub queue : new.queue ≡ old.queue
-  pub made : became old.poster new.poster code
+abbrev pub PosterCalls : (PosterSeen → PosterSeen → ℕ → Type 0) → Call PosterSide
+PosterCalls became before after code =
+    Turns (λ old new. new.queue ≡ old.queue) (λ old new. became old.poster new.poster code) before after
 
 -- and the taker's, whose posters without a handle stay
-pub record TakerCalls (became : TakerSeen → TakerSeen → ℕ → Type 0) (before after : List TakerSide) (code : ℕ) : Type
-    0 where
-  pub old : TakerSide
-  pub new : TakerSide
-  pub was : before ≡ old ∷ []
-  pub is : after ≡ new ∷ []
-  pub queue : new.queue ≡ old.queue
-  pub spare : new.spare ≡ old.spare
-  pub made : became old.taker new.taker code
+abbrev pub TakerCalls : (TakerSeen → TakerSeen → ℕ → Type 0) → Call TakerSide
+TakerCalls became before after code =
+    Turns (λ old new. (new.queue ≡ old.queue) × (new.spare ≡ old.spare))
+    (λ old new. became old.taker new.taker code) before after
 
 -- how many keys the queue of a poster has
 abbrev pub poster_keys : PosterSide → ℕ
@@ -51,7 +42,7 @@ PostsByCode capacity key number old new code =
     (λ fault. (new ≡ poster_tried old) × (fault ≡ post.Full → WasFull capacity old))
 
 -- by a poster's handle
-abbrev pub PostsOn : ℕ → ℕ → List PosterSide → List PosterSide → ℕ → Type 0
+abbrev pub PostsOn : ℕ → ℕ → Call PosterSide
 PostsOn key number before after code =
     (held : PosterSide) × (before ≡ held ∷ [])
     × PosterCalls (PostsByCode held.queue.value.capacity key number) before after code

@@ -1,10 +1,12 @@
 -- What opens a queue of requests and its handles.
-use Rattle.std.specs.Prelude.{ℕ, ◌≡◌, ◌↔◌, ◌⊎◌, List, [], ◌∷◌, ◌++◌, ⊤}
+use Rattle.std.specs.Prelude.{ℕ, ◌≡◌, ◌⊎◌, List, [], ◌∷◌, ◌++◌, ⊤}
 use Rattle.nr_model.specs.Sizes.{IsBadSize}
 use Rattle.nr_core.specs.declared.shape.TheConstants.{MAX_LARGE_READERS, MAX_LARGE_SLOTS}
 use Rattle.nr_trigger.specs.Tokens.{IsOpenedQueue, PosterSeen}
 use Rattle.nr_c.specs.Endings.{HasEnded}
-use Rattle.nr_c.specs.Numbers.{answer_bad_size, answer_done, answer_no_memory, answer_no_poster}
+use Rattle.nr_c.specs.Live.{CallOfTwo, OpensSide}
+use Rattle.nr_c.specs.Numbers.{answer_done, answer_no_memory, answer_no_poster}
+use Rattle.nr_c.specs.Spares.{KeepsSpare, LeadsTo, TakesLast}
 use Rattle.nr_c.specs.declared.poster_side.PosterSide.{PosterSide}
 use Rattle.nr_c.specs.declared.taker_side.TakerSide.{TakerSide}
 
@@ -13,46 +15,29 @@ use Rattle.nr_c.specs.declared.taker_side.TakerSide.{TakerSide}
 abbrev pub IsNewQueue : ℕ → ℕ → ℕ → TakerSide → Type 0
 IsNewQueue capacity posters keys side = IsOpenedQueue capacity posters keys side.queue.value side.spare.items side.taker
 
--- the handle leads to the side of a new queue, or nowhere
-abbrev pub OpensNew : ℕ → ℕ → ℕ → List TakerSide → ℕ → Type 0
-OpensNew capacity posters keys after code =
-    ((code ≡ answer_done) × (side : TakerSide) × (after ≡ side ∷ []) × IsNewQueue capacity posters keys side)
-    ⊎ (((code ≡ answer_bad_size) ⊎ (code ≡ answer_no_memory)) × (after ≡ []))
-
--- an opening by its code: sizes out of their limits are refused
+-- an opening by its code
 abbrev pub OpensQueue : ℕ → ℕ → ℕ → List TakerSide → ℕ → Type 0
-OpensQueue capacity posters keys after code =
-    ((code ≡ answer_bad_size) ↔ (IsBadSize MAX_LARGE_SLOTS capacity ⊎ IsBadSize MAX_LARGE_READERS posters))
-    × OpensNew capacity posters keys after code
+OpensQueue capacity posters keys =
+    OpensSide (IsNewQueue capacity posters keys)
+    (IsBadSize MAX_LARGE_SLOTS capacity ⊎ IsBadSize MAX_LARGE_READERS posters)
 
 -- the taker's handle leads to one side, of the same queue and with the same taker, and these posters have no handle
-pub record KeepsTaker (before after : List TakerSide) (had has : List PosterSeen) : Type 0 where
-  pub old : TakerSide
-  pub new : TakerSide
-  pub was : before ≡ old ∷ []
-  pub is : after ≡ new ∷ []
-  pub queue : new.queue ≡ old.queue
-  pub taker : new.taker ≡ old.taker
-  pub had_spare : old.spare.items ≡ had
-  pub has_spare : new.spare.items ≡ has
+abbrev pub KeepsTaker : List TakerSide → List TakerSide → List PosterSeen → List PosterSeen → Type 0
+KeepsTaker =
+    KeepsSpare (λ (side : TakerSide). side.spare.items)
+    (λ old new. (new.queue ≡ old.queue) × (new.taker ≡ old.taker))
 
 -- the poster's handle leads to the side of that poster, of the taker's queue
-pub record LeadsToPoster (before : List TakerSide) (poster : PosterSeen) (handle : List PosterSide) : Type 0 where
-  pub held : TakerSide
-  pub side : PosterSide
-  pub was : before ≡ held ∷ []
-  pub is : handle ≡ side ∷ []
-  pub queue : side.queue.value ≡ held.queue.value
-  pub poster_is : side.poster ≡ poster
+abbrev pub LeadsToPoster : List TakerSide → PosterSeen → List PosterSide → Type 0
+LeadsToPoster before poster =
+    LeadsTo
+    (λ (held : TakerSide) (side : PosterSide). (side.queue.value ≡ held.queue.value) × (side.poster ≡ poster))
+    before
 
 -- no poster is without a handle; or the last one without gets one, or for want of memory stays without
-abbrev pub TakesPoster : List TakerSide → List PosterSide → List TakerSide → List PosterSide → ℕ → Type 0
-TakesPoster before other after handle code =
-    ((code ≡ answer_no_poster) × KeepsTaker before after [] [] × (handle ≡ other))
-    ⊎ ((code ≡ answer_done) × (rest : List PosterSeen) × (poster : PosterSeen)
-    × KeepsTaker before after (rest ++ poster ∷ []) rest × LeadsToPoster before poster handle)
-    ⊎ ((code ≡ answer_no_memory) × (rest : List PosterSeen) × (poster : PosterSeen)
-    × KeepsTaker before after (rest ++ poster ∷ []) (rest ++ poster ∷ []) × (handle ≡ other))
+abbrev pub TakesPoster : CallOfTwo TakerSide PosterSide
+TakesPoster before other after handle =
+    TakesLast answer_no_poster (KeepsTaker before after) (λ poster. LeadsToPoster before poster handle) (handle ≡ other)
 
 -- the handles that are live lead to sides of one queue
 abbrev pub OneQueue : List TakerSide → List PosterSide → Type 0
@@ -62,7 +47,7 @@ OneQueue [] poster = ⊤
 
 -- the poster's handle leads nowhere any more, and its poster is the last one without a handle; or for want of memory
 -- all stay
-abbrev pub ReturnsPoster : List TakerSide → List PosterSide → List TakerSide → List PosterSide → ℕ → Type 0
+abbrev pub ReturnsPoster : CallOfTwo TakerSide PosterSide
 ReturnsPoster before other after handle code =
     ((code ≡ answer_done) × (rest : List PosterSeen) × (held : PosterSide) × (other ≡ held ∷ [])
     × HasEnded held.queue × KeepsTaker before after rest (rest ++ held.poster ∷ []) × (handle ≡ []))

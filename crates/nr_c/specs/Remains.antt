@@ -3,6 +3,7 @@ use Rattle.std.specs.Prelude.{ℕ, ◌≡◌, ◌≢◌, ◌⊎◌, Bool, false,
 use Rattle.std.specs.Prelude.{None}
 use Rattle.nr_map.specs.Remains.{NextOf, TakenApart}
 use Rattle.nr_c.specs.Endings.{HasEnded}
+use Rattle.nr_c.specs.Live.{CallOfTwo}
 use Rattle.nr_c.specs.Numbers.{answer_done, answer_given, answer_nothing, answer_readers_out}
 use Rattle.nr_c.specs.RowCells.{ShowsSet}
 use Rattle.nr_c.specs.declared.remains_side.LeftMap.{LeftMap}
@@ -36,7 +37,7 @@ pub record LeavesRemains (writer writer' : List WriterSide) (remains' : List Rem
   pub apart : TakenApart held.writer left.rest
   pub watch : HasEnded held.watch
 
-abbrev pub TakesApart : List WriterSide → List RemainsSide → List WriterSide → List RemainsSide → ℕ → Type 0
+abbrev pub TakesApart : CallOfTwo WriterSide RemainsSide
 TakesApart writer remains writer' remains' code =
     RefusesApart writer writer' remains remains' code ⊎ LeavesRemains writer writer' remains' code
 

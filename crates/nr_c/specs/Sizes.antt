@@ -1,6 +1,7 @@
 -- The sizes of a map as C has them.
 use Rattle.std.specs.Prelude.{ℕ, ◌≡◌, List, [], ◌∷◌}
 use Rattle.nr_core.specs.declared.shape.Shape.{Shape}
+use Rattle.nr_c.specs.Live.{Call, Turns}
 use Rattle.nr_c.specs.Numbers.{answer_done}
 use Rattle.nr_c.specs.declared.reader_side.ReaderSide.{ReaderSide}
 use Rattle.nr_c.specs.declared.sizes.NrShape.{NrShape}
@@ -21,9 +22,7 @@ abbrev pub sizes_of : Shape → NrSizes
 sizes_of shape = record { keys = shape.keys; slots = shape.slots; readers = shape.readers; rows = shape.rows }
 
 -- the sizes of a reader's map by their code; the handle leads to what it led to
-pub record TellsSizes (told : NrSizes) (before after : List ReaderSide) (code : ℕ) : Type 0 where
-  pub code_is : code ≡ answer_done
-  pub held : ReaderSide
-  pub was : before ≡ held ∷ []
-  pub is : after ≡ held ∷ []
-  pub sizes : told ≡ sizes_of held.map.value.shape
+abbrev pub TellsSizes : NrSizes → Call ReaderSide
+TellsSizes told before after code =
+    (code ≡ answer_done)
+    × Turns (λ old new. new ≡ old) (λ old new. told ≡ sizes_of old.map.value.shape) before after

@@ -2,7 +2,8 @@
 //! file that declares it cannot import.
 ghost use Rattle.std.specs.Prelude.{◌≡◌, [], ◌∷◌};
 ghost use types.Logic.{sem};
-ghost use Rattle.nr_c.specs.CacheFollows.{follows_cache_side, follows_cache, of_handle};
+ghost use Rattle.nr_c.specs.HandleFollows.{follows_handle, follows_side};
+ghost use Rattle.nr_c.specs.NamedHandles.{cache};
 ghost use Rattle.nr_c.specs.declared.cache_side.CacheSide.{CacheSide as Held};
 
 use crate::cache_handle::NrCache;
@@ -13,7 +14,7 @@ impl NrCache {
     /// What the handle leads to, for a call.
     pub fn side(&mut self) -> &mut CacheSide
         requires { (held : Held) × (self.old.live ≡ held ∷ []) }
-        ensures* writes_back { sem 𝓛 (follows_cache_side self.entry result) }
+        ensures* writes_back { sem 𝓛 (follows_side cache self.entry result) }
         ensures value { self.old.live ≡ result.now ∷ [] }
     {
         self.handle().token()
@@ -21,8 +22,8 @@ impl NrCache {
 
     /// The same word without its name for C.
     pub fn handle(&mut self) -> &mut Handle<CacheSide>
-        ensures* writes_back { sem 𝓛 (follows_cache self.entry result) }
-        ensures value { self.old ≡ of_handle result.now }
+        ensures* writes_back { sem 𝓛 (follows_handle cache self.entry result) }
+        ensures value { self.old ≡ cache.of result.now }
     {
         let whole = self as *mut NrCache;
         unsafe { &mut *(whole as *mut Handle<CacheSide>) }

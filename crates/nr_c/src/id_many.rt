@@ -83,7 +83,7 @@ fn look_up_from(
     requires ids { AreIds left.now }
     requires near { All (IsNear map.now.map.shape.keys) ways.old }
     ensures own { hand_table_of hand.new ≡ map.now }
-    ensures looks { LooksUpIds (place % 16 == 0) left.now (hand.old, ways.old) (hand.new, ways.new) }
+    ensures looks { LooksUpIds (place % 16 == 0) (ids_wanted (take 16 left.now)) (hand.old, ways.old) (hand.new, ways.new) }
     ensures near { All (IsNear map.now.map.shape.keys) ways.new }
 {
     if place % BATCH == 0 {

@@ -5,8 +5,8 @@ ghost use Rattle.nr_idmap.specs.declared.finds.NamedWay.{NamedWay as Named};
 ghost use Rattle.nr_idmap.specs.IdHands.{hand_table_of};
 ghost use Rattle.nr_idmap.specs.IdWalks.{IsNear};
 ghost use Rattle.nr_c.specs.IdLive.{WhenIdleById};
-ghost use Rattle.nr_c.specs.IdMany.{WithIds};
-ghost use Rattle.nr_c.specs.IdManyFirst.{AreFoundIds, FindsIdAtFirst, FindsIdFirst, FindsIdsFirst, LooksUpFound, ids_found};
+ghost use Rattle.nr_c.specs.IdMany.{LooksUpIds, WithIds};
+ghost use Rattle.nr_c.specs.IdManyFirst.{AreFoundIds, FindsIdAtFirst, FindsIdFirst, FindsIdsFirst, ids_found};
 ghost use Rattle.nr_c.specs.Live.{WhenLive};
 ghost use Rattle.nr_c.specs.Many.{InOrder};
 
@@ -113,7 +113,7 @@ fn look_up_found(
     requires ids { AreFoundIds left.now }
     requires near { All (IsNear map.now.map.shape.keys) ways.old }
     ensures own { hand_table_of hand.new ≡ map.now }
-    ensures looks { LooksUpFound (place % 16 == 0) left.now (hand.old, ways.old) (hand.new, ways.new) }
+    ensures looks { LooksUpIds (place % 16 == 0) (ids_found (take 16 left.now)) (hand.old, ways.old) (hand.new, ways.new) }
     ensures near { All (IsNear map.now.map.shape.keys) ways.new }
 {
     if place % BATCH == 0 {

@@ -2,7 +2,8 @@
 //! file that declares it cannot import.
 ghost use Rattle.std.specs.Prelude.{◌≡◌, [], ◌∷◌};
 ghost use types.Logic.{sem};
-ghost use Rattle.nr_c.specs.IdReaderFollows.{follows_id_reader_side, follows_id_reader, of_handle};
+ghost use Rattle.nr_c.specs.HandleFollows.{follows_handle, follows_side};
+ghost use Rattle.nr_c.specs.NamedHandles.{id_reader};
 ghost use Rattle.nr_c.specs.declared.id_reader_side.IdReaderSide.{IdReaderSide as Held};
 
 use crate::handle::Handle;
@@ -13,7 +14,7 @@ impl NrIdReader {
     /// What the handle leads to, for a call.
     pub fn side(&mut self) -> &mut IdReaderSide
         requires { (held : Held) × (self.old.live ≡ held ∷ []) }
-        ensures* writes_back { sem 𝓛 (follows_id_reader_side self.entry result) }
+        ensures* writes_back { sem 𝓛 (follows_side id_reader self.entry result) }
         ensures value { self.old.live ≡ result.now ∷ [] }
     {
         self.handle().token()
@@ -21,8 +22,8 @@ impl NrIdReader {
 
     /// The same word without its name for C.
     pub fn handle(&mut self) -> &mut Handle<IdReaderSide>
-        ensures* writes_back { sem 𝓛 (follows_id_reader self.entry result) }
-        ensures value { self.old ≡ of_handle result.now }
+        ensures* writes_back { sem 𝓛 (follows_handle id_reader self.entry result) }
+        ensures value { self.old ≡ id_reader.of result.now }
     {
         let whole = self as *mut NrIdReader;
         unsafe { &mut *(whole as *mut Handle<IdReaderSide>) }

@@ -82,7 +82,7 @@ fn load_from(map: &ReaderMap, hand: &mut Hand, place: usize, left: &[NrWanted])
     requires own { hand.old.reader.table ≡ map.now }
     requires keys { All (λ one. one.key < map.now.shape.keys) left.now }
     ensures own { hand.new.reader.table ≡ map.now }
-    ensures loads { LoadsKeysAhead (place % 16 == 0) left.now hand.old hand.new }
+    ensures loads { LoadsKeysAhead (place % 16 == 0) (keys_wanted (take 16 left.now)) hand.old hand.new }
 {
     if place % GROUP == 0 {
         let group = &left[..left.len().min(GROUP)];

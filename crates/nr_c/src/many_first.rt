@@ -2,8 +2,8 @@
 ghost use Rattle.std.specs.Prelude.{◌≡◌, ◌<◌, ◌≤◌, ◌+◌, ◌*◌, ◌/◌, ◌%◌, ◌==◌, All, length, take};
 ghost use Rattle.std.specs.Bool.{OnFalse, OnTrue};
 ghost use Rattle.nr_c.specs.Live.{WhenIdle, WhenLive};
-ghost use Rattle.nr_c.specs.Many.{InOrder, WithKeys};
-ghost use Rattle.nr_c.specs.ManyFirst.{AreFoundKeys, FindsAtFirst, FindsOneFirst, FindsSomeFirst, LoadsFirstAhead, count_found, first_code, keys_found};
+ghost use Rattle.nr_c.specs.Many.{InOrder, LoadsKeysAhead, WithKeys};
+ghost use Rattle.nr_c.specs.ManyFirst.{AreFoundKeys, FindsAtFirst, FindsOneFirst, FindsSomeFirst, count_found, first_code, keys_found};
 
 use crate::codes::{NR_CLOSED, NR_DONE, NR_HOLDING, NR_HOLE, NR_NO_KEY, NR_ROWS};
 use crate::reader_handle::NrReader;
@@ -130,7 +130,7 @@ fn load_first_from(map: &ReaderMap, hand: &mut Hand, place: usize, left: &[NrFou
     requires own { hand.old.reader.table ≡ map.now }
     requires keys { All (λ one. one.key < map.now.shape.keys) left.now }
     ensures own { hand.new.reader.table ≡ map.now }
-    ensures loads { LoadsFirstAhead (place % 16 == 0) left.now hand.old hand.new }
+    ensures loads { LoadsKeysAhead (place % 16 == 0) (keys_found (take 16 left.now)) hand.old hand.new }
 {
     if place % GROUP == 0 {
         let group = &left[..left.len().min(GROUP)];

@@ -2,7 +2,8 @@
 //! file that declares it cannot import.
 ghost use Rattle.std.specs.Prelude.{◌≡◌, [], ◌∷◌};
 ghost use types.Logic.{sem};
-ghost use Rattle.nr_c.specs.ReaderFollows.{follows_reader_side, follows_reader, of_handle};
+ghost use Rattle.nr_c.specs.HandleFollows.{follows_handle, follows_side};
+ghost use Rattle.nr_c.specs.NamedHandles.{reader};
 ghost use Rattle.nr_c.specs.declared.reader_side.ReaderSide.{ReaderSide as Held};
 
 use crate::handle::Handle;
@@ -13,7 +14,7 @@ impl NrReader {
     /// What the handle leads to, for a call.
     pub fn side(&mut self) -> &mut ReaderSide
         requires { (held : Held) × (self.old.live ≡ held ∷ []) }
-        ensures* writes_back { sem 𝓛 (follows_reader_side self.entry result) }
+        ensures* writes_back { sem 𝓛 (follows_side reader self.entry result) }
         ensures value { self.old.live ≡ result.now ∷ [] }
     {
         self.handle().token()
@@ -21,8 +22,8 @@ impl NrReader {
 
     /// The same word without its name for C.
     pub fn handle(&mut self) -> &mut Handle<ReaderSide>
-        ensures* writes_back { sem 𝓛 (follows_reader self.entry result) }
-        ensures value { self.old ≡ of_handle result.now }
+        ensures* writes_back { sem 𝓛 (follows_handle reader self.entry result) }
+        ensures value { self.old ≡ reader.of result.now }
     {
         let whole = self as *mut NrReader;
         unsafe { &mut *(whole as *mut Handle<ReaderSide>) }

@@ -2,7 +2,8 @@
 //! file that declares it cannot import.
 ghost use Rattle.std.specs.Prelude.{◌≡◌, [], ◌∷◌};
 ghost use types.Logic.{sem};
-ghost use Rattle.nr_c.specs.RemainsFollows.{follows_remains_side, follows_remains, of_handle};
+ghost use Rattle.nr_c.specs.HandleFollows.{follows_handle, follows_side};
+ghost use Rattle.nr_c.specs.NamedHandles.{remains};
 ghost use Rattle.nr_c.specs.declared.remains_side.RemainsSide.{RemainsSide as Held};
 
 use crate::handle::Handle;
@@ -13,7 +14,7 @@ impl NrRemains {
     /// What the handle leads to, for a call.
     pub fn side(&mut self) -> &mut RemainsSide
         requires { (held : Held) × (self.old.live ≡ held ∷ []) }
-        ensures* writes_back { sem 𝓛 (follows_remains_side self.entry result) }
+        ensures* writes_back { sem 𝓛 (follows_side remains self.entry result) }
         ensures value { self.old.live ≡ result.now ∷ [] }
     {
         self.handle().token()
@@ -21,8 +22,8 @@ impl NrRemains {
 
     /// The same word without its name for C.
     pub fn handle(&mut self) -> &mut Handle<RemainsSide>
-        ensures* writes_back { sem 𝓛 (follows_remains self.entry result) }
-        ensures value { self.old ≡ of_handle result.now }
+        ensures* writes_back { sem 𝓛 (follows_handle remains self.entry result) }
+        ensures value { self.old ≡ remains.of result.now }
     {
         let whole = self as *mut NrRemains;
         unsafe { &mut *(whole as *mut Handle<RemainsSide>) }

@@ -2,7 +2,8 @@
 //! file that declares it cannot import.
 ghost use Rattle.std.specs.Prelude.{◌≡◌, [], ◌∷◌};
 ghost use types.Logic.{sem};
-ghost use Rattle.nr_c.specs.TakerFollows.{follows_taker_side, follows_taker, of_handle};
+ghost use Rattle.nr_c.specs.HandleFollows.{follows_handle, follows_side};
+ghost use Rattle.nr_c.specs.NamedHandles.{taker};
 ghost use Rattle.nr_c.specs.declared.taker_side.TakerSide.{TakerSide as Held};
 
 use crate::handle::Handle;
@@ -13,7 +14,7 @@ impl NrTaker {
     /// What the handle leads to, for a call.
     pub fn side(&mut self) -> &mut TakerSide
         requires { (held : Held) × (self.old.live ≡ held ∷ []) }
-        ensures* writes_back { sem 𝓛 (follows_taker_side self.entry result) }
+        ensures* writes_back { sem 𝓛 (follows_side taker self.entry result) }
         ensures value { self.old.live ≡ result.now ∷ [] }
     {
         self.handle().token()
@@ -21,8 +22,8 @@ impl NrTaker {
 
     /// The same word without its name for C.
     pub fn handle(&mut self) -> &mut Handle<TakerSide>
-        ensures* writes_back { sem 𝓛 (follows_taker self.entry result) }
-        ensures value { self.old ≡ of_handle result.now }
+        ensures* writes_back { sem 𝓛 (follows_handle taker self.entry result) }
+        ensures value { self.old ≡ taker.of result.now }
     {
         let whole = self as *mut NrTaker;
         unsafe { &mut *(whole as *mut Handle<TakerSide>) }

@@ -4,8 +4,8 @@ use Rattle.nr_idmap.specs.Keepers.{IdTable}
 use Rattle.nr_c.specs.declared.id_writer_side.IdWriterSide.{IdWriterSide}
 use Rattle.nr_c.specs.IdChoices.{IsAskedWhole}
 use Rattle.nr_c.specs.Ledgers.{AreAllAsked}
-use Rattle.nr_c.proofs.LiveHandles.{has_number, is_zero}
-use Rattle.nr_c.proofs.SidesTurned.{id_writer_turns, owes_all}
+use Rattle.nr_c.proofs.KeptUpqueries.{owes_all}
+use Rattle.nr_c.proofs.LiveHandles.{has_number, is_refused, turns}
 use Rattle.nr_c.proofs.id_choices.nr_choose_id.Goals as goal
 
 -- the ledger was asked of the id's group in the writer's own map
@@ -22,12 +22,12 @@ module _ (id : ℕ) (side : IdWriterSide) {asked : ℕ} {map : IdTable} (is : as
 
 pub returns-then-id-eq0 : goal.returns-then-id-eq0
 returns-then-id-eq0 c =
-    is_zero (λ handle. handle.live) c.is_live.ensures.same c.if-not-is_live.ensures.live c.if-id-eq0.true refl
+    is_refused (λ handle. handle.live) c.is_live.ensures.same c.if-not-is_live.ensures.live c.if-id-eq0.true refl
 
 pub returns-then-are_all_asked : goal.returns-then-are_all_asked
 returns-then-are_all_asked c =
-    has_number c.if-id-eq0.false (id_writer_turns c.is_live.ensures.same c.side-side.ensures.value (refl, refl, refl)
-    (inl (record {
+    has_number c.if-id-eq0.false (turns (λ handle. handle.live) c.is_live.ensures.same c.side-side.ensures.value
+    (refl, refl, refl) (inl (record {
       code_is = refl;
       all = asked_group c.args.id c.side-side.result.now c.group_of.ensures c.deref.ensures
           c.if-are_all_asked.ensures.all;
@@ -39,8 +39,8 @@ returns-then-are_all_asked c =
 pub returns-in-Some : goal.returns-in-Some
 returns-in-Some c =
     let chosen = c.in-Some.ensures in
-    has_number c.if-id-eq0.false (id_writer_turns c.is_live.ensures.same c.side-side.ensures.value (refl, refl, refl)
-    (inr (record {
+    has_number c.if-id-eq0.false (turns (λ handle. handle.live) c.is_live.ensures.same c.side-side.ensures.value
+    (refl, refl, refl) (inr (record {
       some = λ all. c.if-are_all_asked.ensures.some
           (group_asked c.args.id c.side-side.result.now c.group_of.ensures c.deref.ensures all);
       chooses = owes_all chosen.stays.owes chosen.stays.asker refl
@@ -50,8 +50,8 @@ returns-in-Some c =
 pub returns-in-None : goal.returns-in-None
 returns-in-None c =
     let chosen = c.in-None.ensures in
-    has_number c.if-id-eq0.false (id_writer_turns c.is_live.ensures.same c.side-side.ensures.value (refl, refl, refl)
-    (inr (record {
+    has_number c.if-id-eq0.false (turns (λ handle. handle.live) c.is_live.ensures.same c.side-side.ensures.value
+    (refl, refl, refl) (inr (record {
       some = λ all. c.if-are_all_asked.ensures.some
           (group_asked c.args.id c.side-side.result.now c.group_of.ensures c.deref.ensures all);
       chooses = owes_all chosen.stays.owes chosen.stays.asker refl (None, refl, refl, chosen.chooses, chosen.stays);

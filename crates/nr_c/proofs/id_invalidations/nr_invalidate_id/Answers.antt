@@ -8,8 +8,8 @@ use Rattle.nr_c.specs.declared.id_writer_side.IdWriterSide.{IdWriterSide}
 use Rattle.nr_c.specs.IdInvalidations.{TellsOpen}
 use Rattle.nr_c.specs.IdUpqueries.{IsStale, WithdrawsByCode, WithdrawsKept}
 use Rattle.nr_c.specs.Ledgers.{Entries, GivesUp, IsInEither, KeepsNone, Tells}
-use Rattle.nr_c.proofs.LiveHandles.{has_number, is_zero}
-use Rattle.nr_c.proofs.SidesTurned.{id_writer_turns, owes_all}
+use Rattle.nr_c.proofs.KeptUpqueries.{owes_all}
+use Rattle.nr_c.proofs.LiveHandles.{has_number, is_refused, turns}
 use Rattle.nr_c.proofs.id_invalidations.nr_invalidate_id.Goals as goal
 
 -- in the groups of the writer's own map, as the calls told them of the map
@@ -51,14 +51,14 @@ withdraws_too wanted one other new code writer ledger withdraws = ⊎_elim
 
 pub returns-then-id-eq0 : goal.returns-then-id-eq0
 returns-then-id-eq0 c =
-    is_zero (λ handle. handle.live) c.is_live.ensures.same c.if-not-is_live.ensures.live c.if-id-eq0.true tt
+    is_refused (λ handle. handle.live) c.is_live.ensures.same c.if-not-is_live.ensures.live c.if-id-eq0.true tt
 
 pub returns-in-Some : goal.returns-in-Some
 returns-in-Some c =
     let side = c.side-side.result.now in
     let first = c.group_of-first.ensures in
     let second = c.second_of-second.ensures in
-    has_number c.if-id-eq0.false (id_writer_turns c.is_live.ensures.same c.side-side.ensures.value
+    has_number c.if-id-eq0.false (turns (λ handle. handle.live) c.is_live.ensures.same c.side-side.ensures.value
     (c.take_back.ensures.map, c.take_back.ensures.watch, c.take_back.ensures.spare)
     (inl (
       c.in-Some.upquery,
@@ -72,8 +72,8 @@ returns-in-None c =
     let side = c.side-side.result.now in
     let first = c.group_of-first.ensures in
     let second = c.second_of-second.ensures in
-    has_number c.if-id-eq0.false (id_writer_turns c.is_live.ensures.same c.side-side.ensures.value (refl, refl, refl)
-    (inr (
+    has_number c.if-id-eq0.false (turns (λ handle. handle.live) c.is_live.ensures.same c.side-side.ensures.value
+    (refl, refl, refl) (inr (
       in_groups c.args.id side None first c.deref.ensures second c.deref-2.ensures c.in-None.ensures,
       owes_all c.evict.ensures.owes c.evict.ensures.asker refl
           (c.evict.result, c.of_evict.ensures, c.evict.ensures.evicts),

@@ -1,8 +1,8 @@
-use Rattle.std.proofs.Common.{◌<◌, ◌%◌, ◌==◌, ℕ, List, [], arith, get_or, length, subst}
+use Rattle.std.proofs.Common.{◌<◌, ◌%◌, ◌==◌, ℕ, List, [], arith, get_or, length, subst, take}
 use Rattle.std.specs.Prelude.{None}
 use Rattle.std.proofs.lemmas.Option.{slice_get-get_or}
 use Rattle.nr_c.specs.declared.id_many.NrWantedId.{NrWantedId}
-use Rattle.nr_c.specs.IdMany.{LooksUpIds}
+use Rattle.nr_c.specs.IdMany.{LooksUpIds, ids_wanted}
 use Rattle.nr_c.proofs.FindsMade.{all_left, all_made, one_more}
 use Rattle.nr_c.proofs.id_many.find_all_ids.Goals as goal
 
@@ -22,7 +22,8 @@ loop-place-preserved c =
     let looked = c.look_up_from.new.hand in
     let looks
     = subst
-    (λ (l : List NrWantedId). LooksUpIds (place % 16 == 0) l (c.loop-place.hand, c.loop-place.ways) (looked, ways))
+    (λ (l : List NrWantedId). LooksUpIds (place % 16 == 0) (ids_wanted (take 16 l))
+    (c.loop-place.hand, c.loop-place.ways) (looked, ways))
     (all_left had) c.look_up_from.ensures.looks in
     record {
       own = c.find_one_id.ensures.own;

@@ -1,9 +1,10 @@
-use Rattle.std.proofs.Common.{◌≡◌, ◌*◌, ◌<◌, ◌%◌, ◌==◌, ◌∙◌, ℕ, List, arith, get_or, length, subst}
+use Rattle.std.proofs.Common.{◌≡◌, ◌*◌, ◌<◌, ◌%◌, ◌==◌, ◌∙◌, ℕ, List, arith, get_or, length, subst, take}
 use Rattle.std.specs.Prelude.{None}
 use Rattle.std.proofs.lemmas.Option.{slice_get-get_or}
 use Rattle.nr_model.specs.declared.rows.Row.{Row}
 use Rattle.nr_c.specs.declared.id_many_first.NrFoundId.{NrFoundId}
-use Rattle.nr_c.specs.IdManyFirst.{FindsIdFirst, LooksUpFound}
+use Rattle.nr_c.specs.IdMany.{LooksUpIds}
+use Rattle.nr_c.specs.IdManyFirst.{FindsIdFirst, ids_found}
 use Rattle.nr_c.proofs.FindsMade.{all_left, all_made, one_more}
 use Rattle.nr_c.proofs.PartsPut.{found_id_long, part_is, part_long, part_put}
 use Rattle.nr_c.proofs.id_many_first.find_ids_first.Goals as goal
@@ -27,7 +28,8 @@ loop-place-preserved c =
     let looked = c.look_up_found.new.hand in
     let looks
     = subst
-    (λ (l : List NrFoundId). LooksUpFound (place % 16 == 0) l (c.loop-place.hand, c.loop-place.ways) (looked, ways))
+    (λ (l : List NrFoundId). LooksUpIds (place % 16 == 0) (ids_found (take 16 l)) (c.loop-place.hand, c.loop-place.ways)
+    (looked, ways))
     (all_left had) c.look_up_found.ensures.looks in
     let at = get_or ways (place % 16) None in
     let begin : ℕ = c.part_begin-begin.result in

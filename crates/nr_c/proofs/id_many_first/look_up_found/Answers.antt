@@ -2,7 +2,8 @@ use Rattle.std.proofs.Common.{◌<◌, ◌==◌, ℕ, Bool, ap, arith, subst, sy
 use Rattle.std.specs.List.{All}
 use Rattle.std.proofs.lemmas.List.Elements.{All-map, All-take}
 use Rattle.nr_c.specs.declared.id_many_first.NrFoundId.{NrFoundId}
-use Rattle.nr_c.specs.IdManyFirst.{LooksUpFound}
+use Rattle.nr_c.specs.IdMany.{LooksUpIds}
+use Rattle.nr_c.specs.IdManyFirst.{ids_found}
 use Rattle.nr_c.proofs.LookedUp.{sixteen_looked_up}
 use Rattle.nr_c.proofs.id_many_first.look_up_found.Goals as goal
 
@@ -16,7 +17,8 @@ returns-then-place-eq0-clause-looks c =
     let left = c.args.left.now in
     let ways = c.look_up.new.ways in
     let hand = c.look_up.new.self in
-    subst (λ (begins : Bool). LooksUpFound begins left (c.args.hand.now, c.args.ways.now) (hand, ways))
+    subst
+    (λ (begins : Bool). LooksUpIds begins (ids_found (take 16 left)) (c.args.hand.now, c.args.ways.now) (hand, ways))
     (sym (ap (λ (rest : ℕ). rest == 0) c.if-place-eq0.true))
     (sixteen_looked_up (λ (one : NrFoundId). one.id) left ways c.args.hand.now hand c.min.result _
     (omega (arith, c.min.ensures))

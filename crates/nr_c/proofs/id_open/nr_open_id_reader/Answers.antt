@@ -2,8 +2,7 @@ use Rattle.std.proofs.Common.{◌≡◌, ◌∙◌, ◌++◌, List, [], ◌∷�
 use Rattle.std.proofs.lemmas.Grind.{common_steps}
 use Rattle.std.proofs.lemmas.List.{get_or_append_left, length-append}
 use Rattle.nr_idmap.specs.Keepers.{IdCaller, id_table_of}
-use Rattle.nr_c.proofs.HandlesOpened.{keeps_id_writer, may_open, other_is_live}
-use Rattle.nr_c.proofs.LiveHandles.{led}
+use Rattle.nr_c.proofs.HandlesOpened.{leads_to, other_is_live, takes_back, takes_last, takes_none}
 use Rattle.nr_c.proofs.id_open.nr_open_id_reader.Goals as goal
 
 pub returns-then-is_live : goal.returns-then-is_live
@@ -17,14 +16,8 @@ returns-in_default c =
     = grind (arith, common_steps, c.in_default.ensures.items, c.in_default.ensures.variant) in
     let left : c.pop.new.self.items ≡ []
     = sym (append-nil c.pop.new.self.items) ∙ sym c.in_default.ensures.items ∙ none in
-    let was = led (λ handle. handle.live) c.is_live.ensures.same c.side-side.ensures.value in
-    may_open (λ handle. handle.live) (λ handle. handle.live) c.is_live.ensures.same c.is_live-2.ensures.same
-    c.side-side.ensures.value c.if-is_live.ensures.empty
-    (inl (
-      refl,
-      keeps_id_writer was (refl, refl, refl, refl) none left,
-      ap (λ handle. handle.live) c.is_live-2.ensures.same,
-    ))
+    takes_none (λ handle. handle.live) (λ handle. handle.live) c.is_live.ensures.same c.is_live-2.ensures.same
+    c.side-side.ensures.value c.if-is_live.ensures.empty (refl, refl, refl, refl) none left
 
 -- the readers that are left are the map's, as all were
 pub invariant_of-side-in-Ok-1 : goal.invariant_of-side-in-Ok-1
@@ -45,38 +38,14 @@ invariant_of-side-in-Ok-1 c =
 pub returns-in-Ok : goal.returns-in-Ok
 returns-in-Ok c =
     let (shared, reader) = c.in-Ok.ensures.ok in
-    let was = led (λ handle. handle.live) c.is_live.ensures.same c.side-side.ensures.value in
-    may_open (λ handle. handle.live) (λ handle. handle.live) c.is_live.ensures.same c.is_live-2.ensures.same
-    c.side-side.ensures.value c.if-is_live.ensures.empty
-    (inr (inl (
-      refl,
-      c.pop.new.self.items,
-      c.in-Some.next,
-      keeps_id_writer was (refl, refl, refl, refl) c.in-Some.ensures.items refl,
-      record {
-        held = c.side-side.result.now;
-        side = c.in-Ok.made.value;
-        was = was;
-        is = c.lead_to.ensures;
-        map = shared;
-        holds_none = reader;
-        word = c.in-Ok.ensures.watch.0;
-        watch = c.in-Ok.ensures.watch.1;
-      },
-    )))
+    takes_last (λ handle. handle.live) (λ handle. handle.live) c.is_live.ensures.same c.is_live-2.ensures.same
+    c.side-side.ensures.value c.if-is_live.ensures.empty (refl, refl, refl, refl)
+    c.pop.new.self.items c.in-Some.next c.in-Some.ensures.items refl
+    (leads_to (λ handle. handle.live) c.is_live.ensures.same c.side-side.ensures.value c.lead_to.ensures
+    (shared, reader, c.in-Ok.ensures.watch.0, c.in-Ok.ensures.watch.1))
 
 pub returns-in-Err : goal.returns-in-Err
 returns-in-Err c =
-    let back : c.push_reserved.new.self.items ≡ c.pop.new.self.items ++ c.in-Some.next ∷ []
-    = c.push_reserved.ensures.items
-    ∙ ap (λ (token : IdCaller). c.pop.new.self.items ++ token ∷ []) c.in-Err.ensures.back in
-    let was = led (λ handle. handle.live) c.is_live.ensures.same c.side-side.ensures.value in
-    may_open (λ handle. handle.live) (λ handle. handle.live) c.is_live.ensures.same c.is_live-2.ensures.same
-    c.side-side.ensures.value c.if-is_live.ensures.empty
-    (inr (inr (
-      refl,
-      c.pop.new.self.items,
-      c.in-Some.next,
-      keeps_id_writer was (refl, refl, refl, refl) c.in-Some.ensures.items back,
-      ap (λ handle. handle.live) c.is_live-2.ensures.same,
-    )))
+    takes_back (λ handle. handle.live) (λ handle. handle.live) c.is_live.ensures.same c.is_live-2.ensures.same
+    c.side-side.ensures.value c.if-is_live.ensures.empty (refl, refl, refl, refl)
+    c.pop.new.self.items c.in-Some.next c.in-Some.ensures.items c.push_reserved.ensures.items c.in-Err.ensures.back

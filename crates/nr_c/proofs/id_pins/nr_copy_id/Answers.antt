@@ -1,13 +1,12 @@
 use Rattle.std.proofs.Common.{inl, inr, refl}
-use Rattle.nr_c.proofs.LiveHandles.{refuses_hand}
-use Rattle.nr_c.proofs.SidesTurned.{id_reader_turns}
+use Rattle.nr_c.proofs.LiveHandles.{refuses, turns}
 use Rattle.nr_c.proofs.id_pins.nr_copy_id.Goals as goal
 
 pub returns-then-not-holds : goal.returns-then-not-holds
 returns-then-not-holds c =
-    inr (inl (refuses_hand (λ handle. handle.live) c.is_live.ensures.same c.side-side.ensures.value refl refl
+    inr (inl (refuses (λ handle. handle.live) c.is_live.ensures.same c.side-side.ensures.value refl refl
     c.if-not-holds.ensures.none))
 
 pub returns : goal.returns
-returns c = inr (inr (id_reader_turns (λ handle. handle.live) c.is_live.ensures.same c.side-side.ensures.value refl refl
+returns c = inr (inr (turns (λ handle. handle.live) c.is_live.ensures.same c.side-side.ensures.value (refl, refl)
     (refl, refl, c.copy_to.ensures.shows)))

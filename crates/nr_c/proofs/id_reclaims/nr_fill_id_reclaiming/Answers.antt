@@ -5,18 +5,19 @@ use Rattle.nr_idmap.specs.IdWrites.{FillsIdReclaiming}
 use Rattle.nr_c.specs.RowCells.{ShowsSet}
 use Rattle.nr_c.proofs.KeptUpqueries.{fills_kept_reclaiming}
 use Rattle.nr_c.proofs.RowsAllowed.{no_id_rows, own_id_set}
-use Rattle.nr_c.proofs.SidesTurned.{id_writer_turns}
+use Rattle.nr_c.proofs.LiveHandles.{turns}
 use Rattle.nr_c.proofs.id_reclaims.nr_fill_id_reclaiming.Goals as goal
 
 pub returns-then-not-is_own : goal.returns-then-not-is_own
-returns-then-not-is_own c = inr (id_writer_turns c.is_live.ensures.same c.side-side.ensures.value (refl, refl, refl)
+returns-then-not-is_own c = inr (turns (λ handle. handle.live) c.is_live.ensures.same c.side-side.ensures.value
+    (refl, refl, refl)
     (inl (record { code_is = refl; other = c.if-not-is_own.ensures.other; stays = refl; keeps = refl; told = refl })))
 
 pub returns-in-Some : goal.returns-in-Some
 returns-in-Some c =
     let refused = no_id_rows c.side-side.result.now c.rows.ensures c.deref.ensures c.args.rows.now c.in-Some.code
     c.in-Some.ensures in
-    inr (id_writer_turns c.is_live.ensures.same c.side-side.ensures.value (refl, refl, refl)
+    inr (turns (λ handle. handle.live) c.is_live.ensures.same c.side-side.ensures.value (refl, refl, refl)
     (inr (
       c.if-not-is_own.ensures.own,
       inl (record { refused = refused; stays = refl; keeps = refl }, refl),
@@ -24,7 +25,7 @@ returns-in-Some c =
 
 pub returns-in_default-give_up : goal.returns-in_default-give_up
 returns-in_default-give_up c =
-    inr (id_writer_turns c.is_live.ensures.same c.side-side.ensures.value (refl, refl, refl)
+    inr (turns (λ handle. handle.live) c.is_live.ensures.same c.side-side.ensures.value (refl, refl, refl)
     (inr (
       c.if-not-is_own.ensures.own,
       inr (
@@ -35,7 +36,7 @@ returns-in_default-give_up c =
 
 pub returns-in-Ok : goal.returns-in-Ok
 returns-in-Ok c =
-    inr (id_writer_turns c.is_live.ensures.same c.side-side.ensures.value (refl, refl, refl)
+    inr (turns (λ handle. handle.live) c.is_live.ensures.same c.side-side.ensures.value (refl, refl, refl)
     (inr (
       c.if-not-is_own.ensures.own,
       inr (
@@ -52,7 +53,7 @@ returns-in-Err-Closed c =
     (λ (why : Unfilled). FillsIdReclaiming ShowsSet c.in-Some-give_up.opened.owed c.args.rows.now
     c.side-side.result.now.writer c.args.had.now c.fill_reclaiming.new.writer c.fill_reclaiming.new.had (Err why))
     c.in-Err-Closed.field-0-is c.in-Err-Closed.ensures.fills in
-    inr (id_writer_turns c.is_live.ensures.same c.side-side.ensures.value (refl, refl, refl)
+    inr (turns (λ handle. handle.live) c.is_live.ensures.same c.side-side.ensures.value (refl, refl, refl)
     (inr (
       c.if-not-is_own.ensures.own,
       inr (
@@ -68,7 +69,7 @@ returns-in-Err-NoSlot c =
     (λ (why : Unfilled). FillsIdReclaiming ShowsSet c.in-Some-give_up.opened.owed c.args.rows.now
     c.side-side.result.now.writer c.args.had.now c.fill_reclaiming.new.writer c.fill_reclaiming.new.had (Err why))
     c.in-Err-NoSlot.field-0-is c.in-Err-NoSlot.ensures.fills in
-    inr (id_writer_turns c.is_live.ensures.same c.side-side.ensures.value (refl, refl, refl)
+    inr (turns (λ handle. handle.live) c.is_live.ensures.same c.side-side.ensures.value (refl, refl, refl)
     (inr (
       c.if-not-is_own.ensures.own,
       inr (

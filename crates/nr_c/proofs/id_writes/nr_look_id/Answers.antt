@@ -1,13 +1,14 @@
 use Rattle.std.proofs.Common.{refl}
-use Rattle.nr_c.proofs.LiveHandles.{has_number, is_zero}
-use Rattle.nr_c.proofs.SidesTurned.{id_writer_turns, owes_all}
+use Rattle.nr_c.proofs.KeptUpqueries.{owes_all}
+use Rattle.nr_c.proofs.LiveHandles.{has_number, is_refused, turns}
 use Rattle.nr_c.proofs.id_writes.nr_look_id.Goals as goal
 
 pub returns-then-id-eq0 : goal.returns-then-id-eq0
 returns-then-id-eq0 c =
-    is_zero (λ handle. handle.live) c.is_live.ensures.same c.if-not-is_live.ensures.live c.if-id-eq0.true refl
+    is_refused (λ handle. handle.live) c.is_live.ensures.same c.if-not-is_live.ensures.live c.if-id-eq0.true refl
 
 pub returns : goal.returns
 returns c =
-    has_number c.if-id-eq0.false (id_writer_turns c.is_live.ensures.same c.side-side.ensures.value (refl, refl, refl)
+    has_number c.if-id-eq0.false (turns (λ handle. handle.live) c.is_live.ensures.same c.side-side.ensures.value
+    (refl, refl, refl)
     (owes_all c.look.ensures.owes c.look.ensures.asker refl (c.look.result, c.of_looked.ensures, c.look.ensures.looks)))

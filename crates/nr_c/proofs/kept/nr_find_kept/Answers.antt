@@ -2,8 +2,7 @@ use Rattle.std.proofs.Common.{refl, subst, ℕ}
 use Rattle.nr_map.specs.Hands.{FindsKept, Handed}
 use Rattle.nr_c.specs.Closings.{Hears}
 use Rattle.nr_c.specs.RowCells.{ShowsSet}
-use Rattle.nr_c.proofs.LiveHandles.{has_key, lacks_key}
-use Rattle.nr_c.proofs.SidesTurned.{reader_turns}
+use Rattle.nr_c.proofs.LiveHandles.{has_key, lacks_key, turns}
 use Rattle.nr_c.proofs.kept.nr_find_kept.Goals as goal
 
 pub returns-then-not-has_key : goal.returns-then-not-has_key
@@ -18,11 +17,9 @@ returns c =
     c.of_found-answer.ensures c.heard.ensures in
     has_key (λ handle. handle.live) c.is_live.ensures.same c.side-side.ensures.value c.if-not-has_key.ensures.has (
       c.find_kept.result,
-      c.side-side.result.now.hand,
-      c.find_kept.new.self,
-      reader_turns c.is_live.ensures.same c.side-side.ensures.value refl heard,
-      subst
+      turns (λ handle. handle.live) c.is_live.ensures.same c.side-side.ensures.value (refl, heard)
+          (subst
           (λ (h : Handed). FindsKept ShowsSet c.args.key h c.args.rows.now c.find_kept.new.self
           c.find_kept.new.rows c.find_kept.result)
-          c.hold_for.ensures c.find_kept.ensures.finds,
+          c.hold_for.ensures c.find_kept.ensures.finds),
     )

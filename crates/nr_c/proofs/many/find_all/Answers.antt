@@ -1,6 +1,6 @@
-use Rattle.std.proofs.Common.{◌<◌, ◌%◌, ◌==◌, List, [], arith, get_or, length, subst, sym}
+use Rattle.std.proofs.Common.{◌<◌, ◌%◌, ◌==◌, List, [], arith, get_or, length, subst, sym, take}
 use Rattle.nr_c.specs.declared.many.NrWanted.{NrWanted}
-use Rattle.nr_c.specs.Many.{LoadsKeysAhead}
+use Rattle.nr_c.specs.Many.{LoadsKeysAhead, keys_wanted}
 use Rattle.nr_c.proofs.FindsMade.{all_left, all_made, as_wanted, one_more}
 use Rattle.nr_c.proofs.many.find_all.Goals as goal
 
@@ -25,7 +25,8 @@ loop-place-preserved c =
     let low : c.loop-place.place < length c.loop-place.wanted = omega (arith, c.loop-place-test.true, had.long) in
     let loaded
     = subst
-    (λ (l : List NrWanted). LoadsKeysAhead (c.loop-place.place % 16 == 0) l c.loop-place.hand c.load_from.new.hand)
+    (λ (l : List NrWanted). LoadsKeysAhead (c.loop-place.place % 16 == 0) (keys_wanted (take 16 l)) c.loop-place.hand
+    c.load_from.new.hand)
     (all_left had) c.load_from.ensures.loads in
     record {
       own = c.find_one.ensures.own;

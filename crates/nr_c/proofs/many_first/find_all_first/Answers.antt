@@ -1,7 +1,8 @@
-use Rattle.std.proofs.Common.{◌≡◌, ◌*◌, ◌<◌, ◌%◌, ◌==◌, ◌∙◌, ℕ, List, arith, get_or, length, subst, sym}
+use Rattle.std.proofs.Common.{◌≡◌, ◌*◌, ◌<◌, ◌%◌, ◌==◌, ◌∙◌, ℕ, List, arith, get_or, length, subst, sym, take}
 use Rattle.nr_model.specs.declared.rows.Row.{Row}
 use Rattle.nr_c.specs.declared.many_first.NrFound.{NrFound}
-use Rattle.nr_c.specs.ManyFirst.{FindsOneFirst, LoadsFirstAhead}
+use Rattle.nr_c.specs.Many.{LoadsKeysAhead}
+use Rattle.nr_c.specs.ManyFirst.{FindsOneFirst, keys_found}
 use Rattle.nr_c.proofs.FindsMade.{all_left, all_made, as_wanted, one_more}
 use Rattle.nr_c.proofs.PartsPut.{found_long, part_is, part_long, part_put}
 use Rattle.nr_c.proofs.many_first.find_all_first.Goals as goal
@@ -31,7 +32,8 @@ loop-place-preserved c =
     let low : c.loop-place.place < length c.loop-place.wanted = omega (arith, c.loop-place-test.true, had.long) in
     let loaded
     = subst
-    (λ (l : List NrFound). LoadsFirstAhead (place % 16 == 0) l c.loop-place.hand c.load_first_from.new.hand)
+    (λ (l : List NrFound). LoadsKeysAhead (place % 16 == 0) (keys_found (take 16 l)) c.loop-place.hand
+    c.load_first_from.new.hand)
     (all_left had) c.load_first_from.ensures.loads in
     let begin : ℕ = c.part_begin-begin.result in
     let begins : begin ≡ place * room = c.part_begin-begin.ensures.begin in

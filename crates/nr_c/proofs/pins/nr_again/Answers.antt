@@ -1,8 +1,7 @@
 use Rattle.std.proofs.Common.{Bool, ap, cond, inl, inr, refl, subst, sym, ℕ}
 use Rattle.nr_map.specs.Hands.{AgainByHand, Handed}
 use Rattle.nr_c.specs.Numbers.{answer_other, answer_rows}
-use Rattle.nr_c.proofs.LiveHandles.{has_key, lacks_key, refuses_hand}
-use Rattle.nr_c.proofs.SidesTurned.{reader_turns}
+use Rattle.nr_c.proofs.LiveHandles.{has_key, lacks_key, refuses, turns}
 use Rattle.nr_c.proofs.pins.nr_again.Goals as goal
 
 pub returns-then-not-has_key : goal.returns-then-not-has_key
@@ -13,7 +12,7 @@ returns-then-not-has_key c =
 pub returns-then-not-holds : goal.returns-then-not-holds
 returns-then-not-holds c =
     has_key (λ handle. handle.live) c.is_live.ensures.same c.side-side.ensures.value c.if-not-has_key.ensures.has
-    (inl (refuses_hand (λ handle. handle.live) c.is_live.ensures.same c.side-side.ensures.value refl tt
+    (inl (refuses (λ handle. handle.live) c.is_live.ensures.same c.side-side.ensures.value refl tt
     c.if-not-holds.ensures.none))
 
 pub returns-then-found : goal.returns-then-found
@@ -22,12 +21,11 @@ returns-then-found c =
     (inr (
       c.again-found.result,
       ap (λ (b : Bool). cond {A = ℕ} b answer_rows answer_other) (sym c.if-found.true),
-      c.side-side.result.now.hand,
-      c.again-found.new.self,
-      reader_turns c.is_live.ensures.same c.side-side.ensures.value refl refl,
-      c.if-not-holds.ensures.some,
-      subst (λ (h : Handed). AgainByHand c.args.key h c.again-found.new.self c.again-found.result) c.hold_for.ensures
-          c.again-found.ensures.again,
+      turns (λ handle. handle.live) c.is_live.ensures.same c.side-side.ensures.value (refl, refl) (
+        c.if-not-holds.ensures.some,
+        subst (λ (h : Handed). AgainByHand c.args.key h c.again-found.new.self c.again-found.result)
+            c.hold_for.ensures c.again-found.ensures.again,
+      ),
     ))
 
 pub returns-else-found : goal.returns-else-found
@@ -36,10 +34,9 @@ returns-else-found c =
     (inr (
       c.again-found.result,
       ap (λ (b : Bool). cond {A = ℕ} b answer_rows answer_other) (sym c.if-found.false),
-      c.side-side.result.now.hand,
-      c.again-found.new.self,
-      reader_turns c.is_live.ensures.same c.side-side.ensures.value refl refl,
-      c.if-not-holds.ensures.some,
-      subst (λ (h : Handed). AgainByHand c.args.key h c.again-found.new.self c.again-found.result) c.hold_for.ensures
-          c.again-found.ensures.again,
+      turns (λ handle. handle.live) c.is_live.ensures.same c.side-side.ensures.value (refl, refl) (
+        c.if-not-holds.ensures.some,
+        subst (λ (h : Handed). AgainByHand c.args.key h c.again-found.new.self c.again-found.result)
+            c.hold_for.ensures c.again-found.ensures.again,
+      ),
     ))

@@ -1,19 +1,17 @@
 use Rattle.std.proofs.Common.{inl, inr, refl}
-use Rattle.nr_c.proofs.LiveHandles.{refuses_hand}
-use Rattle.nr_c.proofs.SidesTurned.{reader_turns}
+use Rattle.nr_c.proofs.LiveHandles.{refuses, turns}
 use Rattle.nr_c.proofs.pins.nr_copy.Goals as goal
 
 pub returns-then-not-holds : goal.returns-then-not-holds
 returns-then-not-holds c =
-    inr (inl (refuses_hand (λ handle. handle.live) c.is_live.ensures.same c.side-side.ensures.value refl refl
+    inr (inl (refuses (λ handle. handle.live) c.is_live.ensures.same c.side-side.ensures.value refl refl
     c.if-not-holds.ensures.none))
 
 pub returns : goal.returns
 returns c = inr (inr (
   refl,
-  c.side-side.result.now.hand,
-  c.copy_to.new.self,
-  reader_turns c.is_live.ensures.same c.side-side.ensures.value refl refl,
-  c.copy_to.ensures.copied,
-  c.copy_to.ensures.reads,
+  turns (λ handle. handle.live) c.is_live.ensures.same c.side-side.ensures.value (refl, refl) (
+    c.copy_to.ensures.copied,
+    c.copy_to.ensures.reads,
+  ),
 ))

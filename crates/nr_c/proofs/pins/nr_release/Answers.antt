@@ -1,19 +1,15 @@
 use Rattle.std.proofs.Common.{inl, inr, refl}
-use Rattle.nr_c.proofs.LiveHandles.{refuses_hand}
-use Rattle.nr_c.proofs.SidesTurned.{reader_turns}
+use Rattle.nr_c.proofs.LiveHandles.{refuses, turns}
 use Rattle.nr_c.proofs.pins.nr_release.Goals as goal
 
 pub returns-then-not-holds : goal.returns-then-not-holds
 returns-then-not-holds c =
-    inr (inl (refuses_hand (λ handle. handle.live) c.is_live.ensures.same c.side-side.ensures.value refl tt
+    inr (inl (refuses (λ handle. handle.live) c.is_live.ensures.same c.side-side.ensures.value refl tt
     c.if-not-holds.ensures.none))
 
 pub returns : goal.returns
 returns c = inr (inr (
   refl,
-  c.side-side.result.now.hand,
-  c.release.new.self,
-  reader_turns c.is_live.ensures.same c.side-side.ensures.value refl refl,
-  c.if-not-holds.ensures.some,
-  c.release.ensures.lets_go,
+  turns (λ handle. handle.live) c.is_live.ensures.same c.side-side.ensures.value (refl, refl)
+      (c.if-not-holds.ensures.some, c.release.ensures.lets_go),
 ))

@@ -2,7 +2,7 @@ use Rattle.std.proofs.Common.{ℕ, ◌≡◌, ◌<◌, ◌≤◌, Err, IfErr, Ma
 use Rattle.nr_trigger.specs.declared.faults.PostFault.{PostFault}
 use Rattle.nr_trigger.specs.declared.faults.PostFault.TheVariants as post
 use Rattle.nr_trigger.specs.Tokens.{Queue, WasFull}
-use Rattle.nr_c.proofs.LiveHandles.{has_key, lacks_key, led}
+use Rattle.nr_c.proofs.LiveHandles.{has_key, lacks_key, led, turns}
 use Rattle.nr_c.proofs.posts.nr_post.Goals as goal
 
 -- what is said of each answer and what is said of a fault alone
@@ -25,23 +25,14 @@ returns c =
     let full
     = subst (λ (n : ℕ). IfErr c.try_post.result (λ fault. fault ≡ post.Full → WasFull n side.poster))
     (ap (λ (q : Queue). q.capacity) c.deref.ensures) c.try_post.ensures.full in
-    let was = led (λ handle. handle.live) c.is_live.ensures.same c.side-side.ensures.value in
     has_key (λ handle. handle.live) c.is_live.ensures.same c.side-side.ensures.value below (
       side,
-      was,
-      record {
-        old = side;
-        new = _;
-        was = was;
-        is = refl;
-        queue = refl;
-        made = (
-          c.try_post.ensures.own,
-          c.try_post.ensures.tries,
-          c.try_post.result,
-          c.of_post.ensures,
-          both _ _ _ c.try_post.result
-              c.try_post.ensures.posted full,
-        );
-      },
+      led (λ handle. handle.live) c.is_live.ensures.same c.side-side.ensures.value,
+      turns (λ handle. handle.live) c.is_live.ensures.same c.side-side.ensures.value refl (
+        c.try_post.ensures.own,
+        c.try_post.ensures.tries,
+        c.try_post.result,
+        c.of_post.ensures,
+        both _ _ _ c.try_post.result c.try_post.ensures.posted full,
+      ),
     )

@@ -1,8 +1,7 @@
 use Rattle.std.proofs.Common.{◌≡◌, ◌∙◌, [], ◌∷◌, ◌++◌, ap, append-nil, arith, inl, inr, refl, sym}
 use Rattle.std.proofs.lemmas.Grind.{common_steps}
 use Rattle.nr_trigger.specs.Tokens.{PosterSeen}
-use Rattle.nr_c.proofs.HandlesOpened.{keeps_taker, may_open, other_is_live}
-use Rattle.nr_c.proofs.LiveHandles.{led}
+use Rattle.nr_c.proofs.HandlesOpened.{leads_to, other_is_live, takes_back, takes_last, takes_none}
 use Rattle.nr_c.proofs.queues.nr_open_poster.Goals as goal
 
 pub returns-then-is_live : goal.returns-then-is_live
@@ -16,44 +15,19 @@ returns-in_default c =
     = grind (arith, common_steps, c.in_default.ensures.items, c.in_default.ensures.variant) in
     let left : c.pop.new.self.items ≡ []
     = sym (append-nil c.pop.new.self.items) ∙ sym c.in_default.ensures.items ∙ none in
-    let was = led (λ handle. handle.live) c.is_live.ensures.same c.side-side.ensures.value in
-    may_open (λ handle. handle.live) (λ handle. handle.live) c.is_live.ensures.same c.is_live-2.ensures.same
-    c.side-side.ensures.value c.if-is_live.ensures.empty
-    (inl (refl, keeps_taker was (refl, refl) none left, ap (λ handle. handle.live) c.is_live-2.ensures.same))
+    takes_none (λ handle. handle.live) (λ handle. handle.live) c.is_live.ensures.same c.is_live-2.ensures.same
+    c.side-side.ensures.value c.if-is_live.ensures.empty (refl, refl) none left
 
 pub returns-in-Ok : goal.returns-in-Ok
 returns-in-Ok c =
-    let (shared, poster) = c.in-Ok.ensures.ok in
-    let was = led (λ handle. handle.live) c.is_live.ensures.same c.side-side.ensures.value in
-    may_open (λ handle. handle.live) (λ handle. handle.live) c.is_live.ensures.same c.is_live-2.ensures.same
-    c.side-side.ensures.value c.if-is_live.ensures.empty
-    (inr (inl (
-      refl,
-      c.pop.new.self.items,
-      c.in-Some.next,
-      keeps_taker was (refl, refl) c.in-Some.ensures.items refl,
-      record {
-        held = c.side-side.result.now;
-        side = c.in-Ok.made.value;
-        was = was;
-        is = c.lead_to.ensures;
-        queue = shared;
-        poster_is = poster;
-      },
-    )))
+    takes_last (λ handle. handle.live) (λ handle. handle.live) c.is_live.ensures.same c.is_live-2.ensures.same
+    c.side-side.ensures.value c.if-is_live.ensures.empty (refl, refl)
+    c.pop.new.self.items c.in-Some.next c.in-Some.ensures.items refl
+    (leads_to (λ handle. handle.live) c.is_live.ensures.same c.side-side.ensures.value c.lead_to.ensures
+    c.in-Ok.ensures.ok)
 
 pub returns-in-Err : goal.returns-in-Err
 returns-in-Err c =
-    let back : c.push_reserved.new.self.items ≡ c.pop.new.self.items ++ c.in-Some.next ∷ []
-    = c.push_reserved.ensures.items
-    ∙ ap (λ (token : PosterSeen). c.pop.new.self.items ++ token ∷ []) c.in-Err.ensures.back in
-    let was = led (λ handle. handle.live) c.is_live.ensures.same c.side-side.ensures.value in
-    may_open (λ handle. handle.live) (λ handle. handle.live) c.is_live.ensures.same c.is_live-2.ensures.same
-    c.side-side.ensures.value c.if-is_live.ensures.empty
-    (inr (inr (
-      refl,
-      c.pop.new.self.items,
-      c.in-Some.next,
-      keeps_taker was (refl, refl) c.in-Some.ensures.items back,
-      ap (λ handle. handle.live) c.is_live-2.ensures.same,
-    )))
+    takes_back (λ handle. handle.live) (λ handle. handle.live) c.is_live.ensures.same c.is_live-2.ensures.same
+    c.side-side.ensures.value c.if-is_live.ensures.empty (refl, refl)
+    c.pop.new.self.items c.in-Some.next c.in-Some.ensures.items c.push_reserved.ensures.items c.in-Err.ensures.back

@@ -1,8 +1,7 @@
 use Rattle.std.proofs.Common.{ap, false, inl, inr, refl, true}
 use Rattle.nr_map.specs.Hands.{Handed}
 use Rattle.nr_map.specs.declared.answers.Asked.TheVariants as asked
-use Rattle.nr_c.proofs.LiveHandles.{has_key, lacks_key, refuses_hand}
-use Rattle.nr_c.proofs.SidesTurned.{reader_turns}
+use Rattle.nr_c.proofs.LiveHandles.{has_key, lacks_key, refuses, turns}
 use Rattle.nr_c.proofs.reads.nr_ask.Goals as goal
 
 pub returns-then-not-has_key : goal.returns-then-not-has_key
@@ -13,20 +12,16 @@ returns-then-not-has_key c =
 pub returns-then-holds : goal.returns-then-holds
 returns-then-holds c =
     has_key (λ handle. handle.live) c.is_live.ensures.same c.side-side.ensures.value c.if-not-has_key.ensures.has
-    (inl (refuses_hand (λ handle. handle.live) c.is_live.ensures.same c.side-side.ensures.value refl refl
+    (inl (refuses (λ handle. handle.live) c.is_live.ensures.same c.side-side.ensures.value refl refl
     c.if-holds.ensures.some))
 
 pub returns-then-is_closed : goal.returns-then-is_closed
-returns-then-is_closed c = let hand = c.side-side.result.now.hand in let none = c.if-holds.ensures.none in
+returns-then-is_closed c = let none = c.if-holds.ensures.none in
     has_key (λ handle. handle.live) c.is_live.ensures.same c.side-side.ensures.value c.if-not-has_key.ensures.has
     (inr (
       true,
-      hand,
-      hand,
-      reader_turns c.is_live.ensures.same c.side-side.ensures.value refl c.if-is_closed.ensures,
-      none,
-      none,
-      (refl, refl, refl),
+      turns (λ handle. handle.live) c.is_live.ensures.same c.side-side.ensures.value (refl, c.if-is_closed.ensures)
+          (none, none, (refl, refl, refl)),
     ))
 
 pub returns-in-Send : goal.returns-in-Send
@@ -34,12 +29,11 @@ returns-in-Send c = let asks = c.in-Send.ensures in
     has_key (λ handle. handle.live) c.is_live.ensures.same c.side-side.ensures.value c.if-not-has_key.ensures.has
     (inr (
       false,
-      c.side-side.result.now.hand,
-      c.ask.new.self,
-      reader_turns c.is_live.ensures.same c.side-side.ensures.value refl c.if-is_closed.ensures,
-      c.if-holds.ensures.none,
-      ap (λ (h : Handed). h.key) asks.idle.0,
-      (asked.Send _, refl, asks.asks, c.number.ensures, asks.idle.1, asks.marks),
+      turns (λ handle. handle.live) c.is_live.ensures.same c.side-side.ensures.value (refl, c.if-is_closed.ensures) (
+        c.if-holds.ensures.none,
+        ap (λ (h : Handed). h.key) asks.idle.0,
+        (asked.Send _, refl, asks.asks, c.number.ensures, asks.idle.1, asks.marks),
+      ),
     ))
 
 pub returns-in-Waiting : goal.returns-in-Waiting
@@ -47,12 +41,11 @@ returns-in-Waiting c = let asks = c.in-Waiting.ensures in
     has_key (λ handle. handle.live) c.is_live.ensures.same c.side-side.ensures.value c.if-not-has_key.ensures.has
     (inr (
       false,
-      c.side-side.result.now.hand,
-      c.ask.new.self,
-      reader_turns c.is_live.ensures.same c.side-side.ensures.value refl c.if-is_closed.ensures,
-      c.if-holds.ensures.none,
-      ap (λ (h : Handed). h.key) asks.idle.0,
-      (asked.Waiting, refl, asks.asks, refl, asks.idle.1, asks.marks),
+      turns (λ handle. handle.live) c.is_live.ensures.same c.side-side.ensures.value (refl, c.if-is_closed.ensures) (
+        c.if-holds.ensures.none,
+        ap (λ (h : Handed). h.key) asks.idle.0,
+        (asked.Waiting, refl, asks.asks, refl, asks.idle.1, asks.marks),
+      ),
     ))
 
 pub returns-in-Filled : goal.returns-in-Filled
@@ -60,10 +53,9 @@ returns-in-Filled c = let asks = c.in-Filled.ensures in
     has_key (λ handle. handle.live) c.is_live.ensures.same c.side-side.ensures.value c.if-not-has_key.ensures.has
     (inr (
       false,
-      c.side-side.result.now.hand,
-      c.ask.new.self,
-      reader_turns c.is_live.ensures.same c.side-side.ensures.value refl c.if-is_closed.ensures,
-      c.if-holds.ensures.none,
-      ap (λ (h : Handed). h.key) asks.idle.0,
-      (asked.Filled, refl, asks.asks, refl, asks.idle.1, asks.marks),
+      turns (λ handle. handle.live) c.is_live.ensures.same c.side-side.ensures.value (refl, c.if-is_closed.ensures) (
+        c.if-holds.ensures.none,
+        ap (λ (h : Handed). h.key) asks.idle.0,
+        (asked.Filled, refl, asks.asks, refl, asks.idle.1, asks.marks),
+      ),
     ))

@@ -2,8 +2,7 @@ use Rattle.std.proofs.Common.{ℕ, ◌∙◌, ap, inl, inr, refl, subst, sym}
 use Rattle.nr_board.specs.Reclaiming.{UpdatesReclaiming}
 use Rattle.nr_board.specs.Callers.{Table}
 use Rattle.nr_c.specs.RowCells.{ShowsSet}
-use Rattle.nr_c.proofs.LiveHandles.{lacks_key}
-use Rattle.nr_c.proofs.SidesTurned.{writer_calls_at}
+use Rattle.nr_c.proofs.LiveHandles.{lacks_key, turns_at}
 use Rattle.nr_c.proofs.reclaims.nr_update_reclaiming.Goals as goal
 
 pub returns-then-not-has_key : goal.returns-then-not-has_key
@@ -13,8 +12,8 @@ returns-then-not-has_key c =
 
 pub returns-then-not-are_batch : goal.returns-then-not-are_batch
 returns-then-not-are_batch c =
-    writer_calls_at c.is_live.ensures.same c.side-side.ensures.value c.if-not-has_key.ensures.has (refl, refl, refl)
-    (inl ((refl, c.if-not-are_batch.ensures.none, refl), refl))
+    turns_at (λ handle. handle.live) c.is_live.ensures.same c.side-side.ensures.value c.if-not-has_key.ensures.has
+    (refl, refl, refl) (inl ((refl, c.if-not-are_batch.ensures.none, refl), refl))
 
 pub returns : goal.returns
 returns c =
@@ -25,5 +24,5 @@ returns c =
     (λ (n : ℕ). UpdatesReclaiming ShowsSet n c.args.key c.args.deltas.now side.writer c.args.had.now
     made.new.writer made.new.had made.result)
     bound made.ensures in
-    writer_calls_at c.is_live.ensures.same c.side-side.ensures.value c.if-not-has_key.ensures.has (refl, refl, refl)
-    (inr (c.if-not-are_batch.ensures.batch, made.result, c.of_update_reclaiming.ensures, updates))
+    turns_at (λ handle. handle.live) c.is_live.ensures.same c.side-side.ensures.value c.if-not-has_key.ensures.has
+    (refl, refl, refl) (inr (c.if-not-are_batch.ensures.batch, made.result, c.of_update_reclaiming.ensures, updates))

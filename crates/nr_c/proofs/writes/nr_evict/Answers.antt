@@ -1,6 +1,5 @@
 use Rattle.std.proofs.Common.{refl}
-use Rattle.nr_c.proofs.LiveHandles.{lacks_key}
-use Rattle.nr_c.proofs.SidesTurned.{writer_calls_at}
+use Rattle.nr_c.proofs.LiveHandles.{lacks_key, turns_at}
 use Rattle.nr_c.proofs.writes.nr_evict.Goals as goal
 
 pub returns-then-not-has_key : goal.returns-then-not-has_key
@@ -10,5 +9,5 @@ returns-then-not-has_key c =
 
 pub returns : goal.returns
 returns c =
-    writer_calls_at c.is_live.ensures.same c.side-side.ensures.value c.if-not-has_key.ensures.has (refl, refl, refl)
-    (c.evict.result, c.of_evict.ensures, c.evict.ensures)
+    turns_at (λ handle. handle.live) c.is_live.ensures.same c.side-side.ensures.value c.if-not-has_key.ensures.has
+    (refl, refl, refl) (c.evict.result, c.of_evict.ensures, c.evict.ensures)

@@ -1,8 +1,7 @@
 use Rattle.std.proofs.Common.{ℕ, ◌∙◌, ap, inl, inr, refl, subst, sym}
 use Rattle.nr_board.specs.WriterAnswers.{UpdatesKey}
 use Rattle.nr_board.specs.Callers.{Table}
-use Rattle.nr_c.proofs.LiveHandles.{lacks_key}
-use Rattle.nr_c.proofs.SidesTurned.{writer_calls_at}
+use Rattle.nr_c.proofs.LiveHandles.{lacks_key, turns_at}
 use Rattle.nr_c.proofs.writes.nr_update.Goals as goal
 
 pub returns-then-not-has_key : goal.returns-then-not-has_key
@@ -12,8 +11,8 @@ returns-then-not-has_key c =
 
 pub returns-then-not-are_batch : goal.returns-then-not-are_batch
 returns-then-not-are_batch c =
-    writer_calls_at c.is_live.ensures.same c.side-side.ensures.value c.if-not-has_key.ensures.has (refl, refl, refl)
-    (inl (refl, c.if-not-are_batch.ensures.none, refl))
+    turns_at (λ handle. handle.live) c.is_live.ensures.same c.side-side.ensures.value c.if-not-has_key.ensures.has
+    (refl, refl, refl) (inl (refl, c.if-not-are_batch.ensures.none, refl))
 
 pub returns : goal.returns
 returns c =
@@ -24,5 +23,5 @@ returns c =
     (λ (n : ℕ). UpdatesKey n c.args.key c.args.deltas.now side.writer c.update_rows.new.writer
     c.update_rows.result)
     bound c.update_rows.ensures in
-    writer_calls_at c.is_live.ensures.same c.side-side.ensures.value c.if-not-has_key.ensures.has (refl, refl, refl)
-    (inr (c.if-not-are_batch.ensures.batch, c.update_rows.result, c.of_update.ensures, updates))
+    turns_at (λ handle. handle.live) c.is_live.ensures.same c.side-side.ensures.value c.if-not-has_key.ensures.has
+    (refl, refl, refl) (inr (c.if-not-are_batch.ensures.batch, c.update_rows.result, c.of_update.ensures, updates))

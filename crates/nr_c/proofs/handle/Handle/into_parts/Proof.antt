@@ -8,8 +8,6 @@ use base.Fml.{ftrue, fsep}
 use prog.Wp.{WpFn, Tables}
 use types.Logic.{Logic}
 use contract.Monad.{fact}
-use contract.Running.{tables, tables_of}
-use sound.WpLaws.{WpFn-mono}
 use types.Kit.{Item, rewrite, ‵, raw, ◌⊛◌, ◌$◌, ◌∵◌, !, qed, by, move, drop, use1, join, split, fsplit, fjoin, suffices}
 use types.Kit.{done}
 use types.Part.{whole, sub, agg}
@@ -18,17 +16,14 @@ use types.ByLocal.{alloc_all, pass_all, free_all, look_at, get, get_in, sets}
 use denote.Exit.{no}
 use denote.Signature.{type_at}
 use denote.Steps.{nothing, heard}
-use denote.Triple.Spec.{Meets, triple_of}
-use denote.Triple.Table.{entered, run_framed}
-use denote.Triple.Walked.{says, Stays, stay_dropped, walk_of, ends_at, Goes-dropped, walk_Meets}
+use denote.Triple.Walked.{says, Stays, walk_of, ends_at}
 use Rattle.std_alloc.proofs.BoxSteps.Form.{D, B, word, box_typed}
 use Rattle.std_alloc.proofs.BoxSteps.Steps.{box_out, box_in}
-use denote.Triple.Carry.{spared}
-use denote.Triple.Clauses.{Clauses, Ended, closing}
+use denote.Triple.Clauses.{Clauses, Ended}
 use mir.Syntax.{Fn}
 use mir.MapTy.{inst_fn}
+use Rattle.nr_c.proofs.HandleMet.{asks_and_gives, at_token, stays, taken, takes}
 use Rattle.nr_c.proofs.HandleBox.{Token, boxed, at, Row, Apart}
-use denote.Signature.{plain}
 use Rattle.std_alloc.proofs.BoxSteps.Form.{Bx, X}
 use Rattle.nr_c.specs.contracts.handle.Handle.into_parts.Key.{name as #self}
 use Rattle.nr_c.proofs.handle.Handle.into_parts.Statement as stated
@@ -42,37 +37,24 @@ module _ (K : Token) where
   function = inst_fn (at K) code.function
 
   abbrev ended : Ended
-  ended =
-      record {
-        signature = record {
-          lifetimes = 0;
-          outlives = [];
-          params = plain (λ _. Row K) ∷ [];
-          result = plain
-              (λ _. Apart K);
-        };
-        kept = (no, tt);
-      }
+  ended = takes (Row K) (Apart K) no
 
   abbrev stayed : Stays ended.signature.params ended.kept
-  stayed = (stay_dropped (plain (λ _. Row K)) no, tt)
+  stayed = stays (Row K) (Apart K) no
 
-  abbrev spec : {M : Type 1} {𝓤 : Ura M} (𝓛 : Logic 𝓤) → Clauses 𝓤 ended
-  spec {𝓤 = 𝓤} 𝓛 κs a =
-      record {
-        ghost = Unit {0};
-        requires = λ _. fact 𝓤 ((t : X E) × (a.0.live ≡ t ∷ []));
-        ensures = λ _ r _. fact 𝓤 (a.0.live ≡ r.value ∷ []);
-      }
+  abbrev spec : {M : Type 1} {𝓤 : Ura M} → Clauses 𝓤 ended
+  spec {𝓤 = 𝓤} =
+      asks_and_gives (Row K) (Apart K) no (λ handle. fact 𝓤 ((t : X E) × (handle.live ≡ t ∷ [])))
+      (λ handle parts. handle.live ≡ parts.value ∷ [])
 
   module _ {M : Type 1} {𝓤 : Ura M} (𝓛 : Logic 𝓤) (𝓣 : Tables 𝓤 𝓛.H) where
     open 𝓛 use {H}
 
-    walk : (z : (walk_of 𝓛 ended stayed (spec 𝓛)).Ghost)
-        → ent 𝓤 ((walk_of 𝓛 ended stayed (spec 𝓛)).pre z)
-        (WpFn 𝓤 H 𝓣.C 𝓣.Λ function (z.0.4.0 ++ []) ((walk_of 𝓛 ended stayed (spec 𝓛)).post z))
+    walk : (z : (walk_of 𝓛 ended stayed spec).Ghost)
+        → ent 𝓤 ((walk_of 𝓛 ended stayed spec).pre z)
+        (WpFn 𝓤 H 𝓣.C 𝓣.Λ function (z.0.4.0 ++ []) ((walk_of 𝓛 ended stayed spec).post z))
     walk z =
-        let Post = (walk_of 𝓛 ended stayed (spec 𝓛)).post z in
+        let Post = (walk_of 𝓛 ended stayed spec).post z in
         let h : (Row K).Denot = z.0.3.0 in
         qed 𝓛 ((‵ ftrue ⊛ ‵ (fsep ((Row K).own_val h z.0.4.0) ftrue)) ∷ raw (fact 𝓤 ((t : X E) × (h.live ≡ t ∷ []))) ∷
         [])
@@ -100,24 +82,12 @@ module _ (K : Token) where
         ! (of_opd ! (get_in ! (fld ! refl (stop !)) (sub ! 1 refl (whole !)))) refl fa $
         sets ! (agg ! (and_then ! (get ! refl) (and_then ! (get ! refl) (no_more !)))) refl (box_typed E hv b o fa)
         $ returns ! (look_at ! 0 refl) $ free_all ! refl $
-        suffices ! _ (ends_at 𝓛 ended stayed (spec 𝓛) z w made (tt, tt) (tt, tt)) $ says ! asked.1 $
+        suffices ! _ (ends_at 𝓛 ended stayed spec z w made (tt, tt) (tt, tt)) $ says ! asked.1 $
         nothing ! $ nothing ! $ fjoin ! $ join ! $ nothing ! $ join ! $ done !)))))
 
-  meets : {M : Type 1} {𝓤 : Ura M} (𝓛 : Logic 𝓤) (𝓣 : Tables 𝓤 𝓛.H)
-      → Meets 𝓛 ended.signature (WpFn 𝓤 𝓛.H 𝓣.C 𝓣.Λ function) (closing 𝓛 ended (spec 𝓛))
-  meets {𝓤 = 𝓤} 𝓛 𝓣 =
-      walk_Meets 𝓛 ended stayed (Goes-dropped 𝓛 0 (plain (λ _. Row K)) no (λ κs x f. refl), tt) (spec 𝓛)
-      (WpFn 𝓤 𝓛.H 𝓣.C 𝓣.Λ function) (WpFn-mono 𝓤 𝓛.H 𝓛.laws 𝓣 function)
-      (walk 𝓛 𝓣)
-
 pub into_parts_spec : {M : Type 1} → stated.statement M
-unfolding tables_of
 into_parts_spec 𝓤 𝓛 𝓜 𝓡 wired Y L y =
     let K : Token = record { row = Y; laws = L } in
-    let 𝓣 : Tables 𝓤 𝓛.H = tables_of 𝓤 𝓛.H 𝓜 (tables 𝓤 𝓛.H 𝓜 𝓡 𝓡.env) in
-    spared 𝓛 (ended K).signature (𝓡.run (𝓡.env (#self (at K)))) (run_framed 𝓤 𝓛.H 𝓜 𝓡 (𝓡.env (#self (at K)))) 1
-    (Y.lives, tt) (closing 𝓛 (ended K) (spec K 𝓛))
-    (entered 𝓤 𝓛.H (triple_of 𝓛 (ended K).signature (closing 𝓛 (ended K) (spec K 𝓛))) 𝓣.C 𝓣.Λ (#self (at K))
-    (function K)
-    (code.unfolded 𝓤 𝓛.H 𝓜 𝓡 wired (Y, tt)) (meets K 𝓛 𝓣))
+    at_token 𝓛 𝓜 𝓡 Y (#self (at K)) (function K) (ended K) (spec K) (code.unfolded 𝓤 𝓛.H 𝓜 𝓡 wired (Y, tt))
+    (taken (Row K) (Apart K) no 𝓛 (λ κs x f. refl) (spec K) (function K) (walk K 𝓛))
     ((y.0.0, y.0.1, tt, y.0.3, y.0.4), y.1)

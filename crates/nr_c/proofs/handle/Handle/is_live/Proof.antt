@@ -14,7 +14,6 @@ use base.Fml.{Lft, GName, Share, ftrue, flft}
 use prog.Wp.{WpFn, Tables}
 use types.Logic.{Logic, sem}
 use contract.Monad.{fact, fact_i, fact_use}
-use contract.Running.{tables, tables_of}
 use sound.WpLaws.{WpFn-mono}
 use types.Kit.{given, learn, raw, ‵, ◌⊛◌, ◌$◌, ◌∵◌, !, qed, by, move, keep, use0, use1, split, join, rewrite, fsplit}
 use types.Kit.{fsplit3, fjoin, fpick, fpack, feq_i, feq_l, suffices, group, done}
@@ -31,17 +30,16 @@ use denote.Signature.{plain}
 use denote.Steps.{nothing, opens, closes, owned}
 use denote.Struct.Struct.{within}
 use denote.Struct.Owning.{shape}
-use denote.Triple.Spec.{Meets, triple_of}
-use denote.Triple.Table.{entered, run_framed}
+use denote.Triple.Spec.{Meets}
 use denote.Triple.Walked.{Stays, stay_ref, walk_of, walked, walk_Meets, ends_at, Goes-ref}
 use Rattle.std.proofs.alloc.Calls.{token, handle_tells}
 use Rattle.std.proofs.GlobalToken.{dealloc_token-Testable}
 use Rattle.std_alloc.proofs.BoxSteps.Form.{D, B, P, τ, owning, word}
 use Rattle.std_alloc.proofs.BoxSteps.Steps.{box_out, box_in}
-use denote.Triple.Carry.{spared}
 use denote.Triple.Clauses.{Clauses, Ended, closing}
 use mir.Syntax.{Fn}
 use mir.MapTy.{inst_fn}
+use Rattle.nr_c.proofs.HandleMet.{at_token}
 use Rattle.nr_c.proofs.HandleBox.{Token, boxed, at, Row}
 use denote.Exit.{yes}
 use denote.Builtin.{RefMutOf}
@@ -228,13 +226,8 @@ module _ (K : Token) where
       by ! (each 𝓛 𝓣 κs.0 qs.0 a.0.ref_ptr.0 a.0.ref_ptr.1 a.0.ghost_name a.0.now a.0.now.live refl)))
 
 pub is_live_spec : {M : Type 1} → stated.statement M
-unfolding tables_of
 is_live_spec 𝓤 𝓛 𝓜 𝓡 wired Y L y =
     let K : Token = record { row = Y; laws = L } in
-    let 𝓣 : Tables 𝓤 𝓛.H = tables_of 𝓤 𝓛.H 𝓜 (tables 𝓤 𝓛.H 𝓜 𝓡 𝓡.env) in
-    spared 𝓛 (ended K).signature (𝓡.run (𝓡.env (#self (at K)))) (run_framed 𝓤 𝓛.H 𝓜 𝓡 (𝓡.env (#self (at K)))) 1
-    (Y.lives, tt) (closing 𝓛 (ended K) (spec K 𝓛))
-    (entered 𝓤 𝓛.H (triple_of 𝓛 (ended K).signature (closing 𝓛 (ended K) (spec K 𝓛))) 𝓣.C 𝓣.Λ (#self (at K))
-    (function K)
-    (code.unfolded 𝓤 𝓛.H 𝓜 𝓡 wired (Y, tt)) (meets K 𝓛 𝓣))
+    at_token 𝓛 𝓜 𝓡 Y (#self (at K)) (function K) (ended K) (spec K 𝓛) (code.unfolded 𝓤 𝓛.H 𝓜 𝓡 wired (Y, tt))
+    (meets K 𝓛)
     ((y.0.0, y.0.1, tt, y.0.3, y.0.4), y.1)

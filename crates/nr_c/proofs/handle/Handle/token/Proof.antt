@@ -13,7 +13,6 @@ use base.Fml.{Lft, GName, Share, Fml, ftrue, flft, fsep}
 use prog.Wp.{Env, Calls, Loops, WpFn, Tables}
 use types.Logic.{Logic, sem}
 use contract.Monad.{fact}
-use contract.Running.{tables, tables_of}
 use sound.WpLaws.{WpFn-mono}
 use types.Kit.{‵, ◌⊛◌, some, at_ret, ◌$◌, ◌∵◌, !, qed, by, move, keep, use1, drop, split, join, pick, rewrite, fsplit}
 use types.Kit.{fsplit3, fjoin, suffices, frame, done, raw, later, await, group, fpack}
@@ -27,11 +26,9 @@ use denote.RawPtr.{block_ptr}
 use denote.Ref.{MutRef, mut_vals, mut_Tells}
 use denote.Signature.{plain, mut_ref_to}
 use denote.Steps.{nothing, opens, heard}
-use denote.Triple.Carry.{spared}
 use denote.Triple.Clauses.{Clauses, Ended, closing}
 use denote.Triple.Entry.{on_entry}
-use denote.Triple.Spec.{Meets, triple_of}
-use denote.Triple.Table.{entered, run_framed}
+use denote.Triple.Spec.{Meets}
 use denote.Triple.Walked.{says, Stays, stay_dropped, walk_of, ends_at, walked, walk_Meets, Goes-spent_ref}
 use denote.Exit.{no}
 use denote.Follow.{follows, Part, lends_Part}
@@ -40,6 +37,7 @@ use Rattle.std.proofs.VecSteps.Shapes.{after}
 use Rattle.std_alloc.proofs.BoxSteps.Form.{Bx, X, D, R, B, τ, word, handle}
 use Rattle.std_alloc.proofs.BoxSteps.Steps.{box_out, box_in}
 use Rattle.nr_c.specs.HandleFollows.{with_token}
+use Rattle.nr_c.proofs.HandleMet.{at_token}
 use Rattle.nr_c.proofs.HandleBox.{Token, boxed, at, Row}
 use Rattle.nr_c.specs.contracts.handle.Handle.token.Key.{name as #self}
 use Rattle.nr_c.proofs.handle.Handle.token.Statement as stated
@@ -197,13 +195,8 @@ module _ (K : Token) where
       ! (walk 𝓛 κs.0 qs.0 a.0.ref_ptr.0 a.0.ref_ptr.1 a.0.ghost_name a.0.now asked.0 asked.1 𝓣.C 𝓣.Λ))))
 
 pub token_spec : {M : Type 1} → stated.statement M
-unfolding tables_of
 token_spec 𝓤 𝓛 𝓜 𝓡 wired Y L y =
     let K : Token = record { row = Y; laws = L } in
-    let 𝓣 : Tables 𝓤 𝓛.H = tables_of 𝓤 𝓛.H 𝓜 (tables 𝓤 𝓛.H 𝓜 𝓡 𝓡.env) in
-    spared 𝓛 (ended K).signature (𝓡.run (𝓡.env (#self (at K)))) (run_framed 𝓤 𝓛.H 𝓜 𝓡 (𝓡.env (#self (at K)))) 1
-    (Y.lives, tt) (closing 𝓛 (ended K) ((spec K) 𝓛))
-    (entered 𝓤 𝓛.H (triple_of 𝓛 (ended K).signature (closing 𝓛 (ended K) ((spec K) 𝓛))) 𝓣.C 𝓣.Λ (#self (at K))
-    (function K)
-    (code.unfolded 𝓤 𝓛.H 𝓜 𝓡 wired (Y, tt)) (meets K 𝓛 𝓣))
+    at_token 𝓛 𝓜 𝓡 Y (#self (at K)) (function K) (ended K) (spec K 𝓛) (code.unfolded 𝓤 𝓛.H 𝓜 𝓡 wired (Y, tt))
+    (meets K 𝓛)
     ((y.0.0, y.0.1, tt, y.0.3, y.0.4), y.1)
