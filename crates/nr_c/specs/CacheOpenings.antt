@@ -50,7 +50,8 @@ LeadsToCacheReader before reader =
 -- no reader is without a handle; or the last one without gets one, or for want of memory stays without
 abbrev pub TakesCacheReader : CallOfTwo CacheSide IdReaderSide
 TakesCacheReader before other after handle =
-    TakesLast answer_no_reader (KeepsCache before after) (λ reader. LeadsToCacheReader before reader handle) (handle ≡ other)
+    TakesLast answer_no_reader (KeepsCache before after) (λ reader. LeadsToCacheReader before reader handle)
+    (handle ≡ other)
 
 -- the cache is closed, of which its readers are told; all else that its handle led to is as it was
 pub record ClosesCacheSide (old new : CacheSide) : Type 0 where

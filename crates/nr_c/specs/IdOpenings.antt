@@ -55,7 +55,8 @@ LeadsToIdReader before reader =
 -- no reader is without a handle; or the last one without gets one, or for want of memory stays without
 abbrev pub TakesIdReader : CallOfTwo IdWriterSide IdReaderSide
 TakesIdReader before other after handle =
-    TakesLast answer_no_reader (KeepsIdWriter before after) (λ reader. LeadsToIdReader before reader handle) (handle ≡ other)
+    TakesLast answer_no_reader (KeepsIdWriter before after) (λ reader. LeadsToIdReader before reader handle)
+    (handle ≡ other)
 
 -- the reader that a handle led to ended, having let go what it held, and its share of the map
 abbrev pub EndsIdReader : List IdReaderSide → Type 0

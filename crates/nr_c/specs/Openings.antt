@@ -43,7 +43,8 @@ LeadsToReader before reader =
 -- no reader is without a handle; or the last one without gets one, or for want of memory stays without
 abbrev pub TakesReader : CallOfTwo WriterSide ReaderSide
 TakesReader before other after handle =
-    TakesLast answer_no_reader (KeepsWriter before after) (λ reader. LeadsToReader before reader handle) (handle ≡ other)
+    TakesLast answer_no_reader (KeepsWriter before after) (λ reader. LeadsToReader before reader handle)
+    (handle ≡ other)
 
 -- the reader's handle leads nowhere any more, and its reader, which holds nothing now, is the last one without a
 -- handle; or for want of memory all stay
