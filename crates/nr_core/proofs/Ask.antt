@@ -29,13 +29,11 @@ use Rattle.nr_model.specs.declared.calls.Reply.TheVariants as reply
 
 asked_stays : (z : KeyState) → ((number : ℕ) → z ≡ key.Hole number → ⊥) → asked z ≡ z
 asked_stays (key.Hole number) n = absurd (n number refl)
-asked_stays (key.Asked number) n = refl
-asked_stays (key.Rows number rows) n = refl
+asked_stays other n = refl
 
 asked_number : (z : KeyState) → number_of (asked z) ≡ number_of z
 asked_number (key.Hole number) = refl
-asked_number (key.Asked number) = refl
-asked_number (key.Rows number rows) = refl
+asked_number other = refl
 
 -- an asked word shows the asked state
 shows-asked : (shape : Shape) (words : List ℕ) (w x : ℕ) (state : KeyState) → name_number x ≡ name_number w → x % 2 ≡ 1
@@ -68,13 +66,11 @@ asks shape id reader k near words roles log core there =
     let same : state_of (map_after shape (log ++ e ∷ [])) k ≡ asked state = state_same shape log e near in
     let shown = core.shows k near in
     let other = state_other shape log e in reader_tells Nothing (model.Ask k) (ask_reply state)
-    (on_key (e ∷ []) core id reader Nothing Nothing k x near there name
+    (on_key core (log ++ e ∷ []) id reader Nothing Nothing k x near there name
     (legal-more shape log e core.legal (sym (replies_so shape log (model.Ask k)))) other (λ j. dite (ℕ_discrete j k)
-    (λ z. ap (λ (y : ℕ). number_of (state_of (map_after shape (log ++ e ∷ [])) y)) z ∙ ap number_of same
-    ∙ asked_number state ∙ ap (λ (y : ℕ). number_of (state_of map y)) (sym z)) (λ ne. ap number_of (other j ne)))
-    (λ j n. dite (ℕ_discrete j k) (λ z. ap (state_of (map_after shape (log ++ e ∷ []))) z ∙ same
-    ∙ asked_stays state (λ number y. n number (ap (state_of map) z ∙ y)) ∙ ap (state_of map) (sym z))
-    (λ ne. other j ne)) (subst (ShowsState shape words x) (sym same)
+    (λ z. rw z (ap number_of same ∙ asked_number state)) (λ ne. ap number_of (other j ne)))
+    (λ j n. dite (ℕ_discrete j k)
+    (λ z. rw z (same ∙ asked_stays state (λ number y. n number (ap (state_of map) z ∙ y)))) (λ ne. other j ne)) (subst (ShowsState shape words x) (sym same)
     (shows-asked shape words w x state name (omega arith) (omega arith) shown)) tt (λ s _. refl) (λ s e'.
     let more = total-set (holds s) roles id (Reader reader Nothing) (Reader reader Nothing) there in
     omega (arith, core.counts k s near e')))

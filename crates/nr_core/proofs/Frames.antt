@@ -1,18 +1,18 @@
 -- What a step leaves of what the callers know.
 use Rattle.std.proofs.Common.{subst, List, [], ap, arith, cond, get_or, le-leb, set, suc, sym, ℕ, ◌%◌, ◌*◌, ◌+◌, ◌<◌}
-use Rattle.std.proofs.Common.{◌^◌, ◌∙◌, ◌≡◌, ◌≤◌}
+use Rattle.std.proofs.Common.{◌^◌, ◌∙◌, ◌≡◌, ◌≤◌, ◌∷◌, ◌++◌, refl}
 use lib.ListN.{get_elem?}
 use mathlib.Core.Option.{some}
-use Rattle.nr_model.specs.Maps.{PartialMap, number_of, reply_at, state_after, state_of}
+use Rattle.nr_model.specs.Maps.{PartialMap, number_of, reply_at, state_after, state_of, call_key}
 use Rattle.nr_model.specs.declared.rows.Row.{Row}
 use Rattle.nr_model.specs.declared.states.KeyState.{KeyState}
 use Rattle.nr_words.proofs.SetWordLemmas.{length-row_words}
 use Rattle.nr_core.proofs.Sums.{only-same, term_le}
 use Rattle.nr_core.specs.Core.{AreNumbers, AtDesk, AtPlace, Core, Knows, Grips, Reads, ShowsState, Wants}
-use Rattle.nr_core.specs.Roles.{grips, keeps, taken, held}
+use Rattle.nr_core.specs.Roles.{grips, keeps, taken, held, is_reader, is_writer}
 use Rattle.nr_core.specs.Slots.{SlotSpells, bound_of, content, departures, name_number, unused}
 use Rattle.nr_core.specs.States.{key_of}
-use Rattle.nr_core.specs.Story.{call_of, map_after}
+use Rattle.nr_core.specs.Story.{call_of, map_after, opening_map}
 use Rattle.nr_core.specs.Sums.{only, total}
 use Rattle.nr_core.specs.declared.calls.WriterCall.{WriterCall}
 use Rattle.nr_core.specs.declared.places.Place.{Place}
@@ -25,6 +25,8 @@ use Rattle.nr_core.specs.declared.roles.Role.TheVariants.{Writer, Note, Reader}
 use Rattle.nr_core.specs.declared.shape.Shape.{Shape}
 use Rattle.nr_model.specs.Histories.{Entry}
 use Rattle.nr_core.specs.declared.roles.Role.{Role}
+use Rattle.nr_core.proofs.Histories.{bound-after, legal-more, now-more, replies_so}
+use lib.Seq.{set-get_or}
 use Rattle.nr_model.specs.declared.states.KeyState.TheVariants as key
 
 pub unused-free : (s f : ℕ) → f ≤ s → unused s f ≡ 1
@@ -75,6 +77,14 @@ module _ (shape : Shape) where
       pub deps : hold s ≡ 0 → get_or words' (departures shape s) 0 ≡ get_or words (departures shape s) 0
       pub sum : (get_or words' (departures shape s) 0 + hold' s) % 2 ^ 40
           ≡ (get_or words (departures shape s) 0 + hold s) % 2 ^ 40
+
+    -- a slot whose words stay, and whose holders are as many
+    pub left_so : (s : ℕ)
+        → ((i : ℕ) → i ≤ 2 * (bound_of shape)
+        → get_or words' (content shape s i) 0 ≡ get_or words (content shape s i) 0)
+        → get_or words' (departures shape s) 0 ≡ get_or words (departures shape s) 0 → hold' s ≡ hold s → Left s
+    left_so s contents dep still =
+        record { contents = contents; nobody = λ z. still ∙ z; deps = λ _. dep; sum = rw (dep, still) refl }
 
     pub retired_more : (l : List Retired)
         → ((s : ℕ) → s < shape.slots → 0 < total (λ (x : Retired). only s x.slot) l → Left s)
@@ -166,3 +176,49 @@ pub stands_at : {shape : Shape} {words : List ℕ} {roles : List Role} {log : Li
 stands_at {shape = shape} {words = words} {roles = roles} {log = log} core id {desk = desk} there {place = place} is =
     subst (AtPlace shape words (map_after shape log) (held roles) desk.fresh desk.retired) is
     (core.knows id (Writer desk) there).place
+
+-- other roles that hold and keep the same slots, and of which each knows what it should
+pub roles_more : {shape : Shape} {words : List ℕ} {roles : List Role} {log : List Entry}
+    → Core shape words roles log → (roles' : List Role) → ((s : ℕ) → held roles' s ≡ held roles s)
+    → ((s : ℕ) → s < shape.slots → total (keeps s) roles' ≡ total (keeps s) roles) → total is_writer roles' ≤ 1
+    → total is_reader roles' ≤ shape.readers
+    → ((id : ℕ) (role : Role) → get_elem? roles' id ≡ some role
+    → Knows shape words (map_after shape log) (held roles) role)
+    → Core shape words roles' log
+roles_more {shape} {words} {roles} {log} core roles' still keeping one few knows = record {
+  fits = core.fits;
+  wide = core.wide;
+  legal = core.legal;
+  shows = core.shows;
+  places = λ s near. omega (arith, core.places s near, keeping s near);
+  counts = λ k s near names. rw (still s) (core.counts k s near names);
+  knows = λ id role there. subst (λ (hold : ℕ → ℕ). Knows shape words (map_after shape log) hold role)
+      (λ j s. sym (still s) j) (knows id role there);
+  one = one;
+  few = few;
+}
+
+-- an entry that leaves its key's state
+pub entry_more : {shape : Shape} {words : List ℕ} {roles : List Role} {log : List Entry} → Core shape words roles log
+    → (e : Entry) → let state = state_of (map_after shape log) (call_key e.call) in
+    e.reply ≡ reply_at (bound_of shape) e.call state → state_after (bound_of shape) e.call state ≡ state
+    → Core shape words roles (log ++ e ∷ [])
+entry_more {shape} {log = log} core e replies stays =
+    let map = map_after shape log in
+    let k = call_key e.call in
+    let kept : set map.states k (state_after map.bound e.call (state_of map k)) ≡ map.states
+    = ap (λ b. set map.states k (state_after b e.call (state_of map k))) (bound-after log (opening_map shape))
+    ∙ ap (set map.states k) stays ∙ set-get_or map.states k (key.Hole 0) in
+    let same : map_after shape (log ++ e ∷ []) ≡ map
+    = now-more shape log e ∙ ap (λ (states : List KeyState). record { bound = map.bound; states = states }) kept in
+    record {
+      fits = core.fits;
+      wide = core.wide;
+      legal = legal-more shape log e core.legal (replies ∙ sym (replies_so shape log e.call));
+      shows = λ at near. rw same (core.shows at near);
+      places = core.places;
+      counts = core.counts;
+      knows = λ id role there. rw same (core.knows id role there);
+      one = core.one;
+      few = core.few;
+    }

@@ -1,5 +1,5 @@
 -- A load that only learns changes nothing, whichever caller makes it.
-use Rattle.std.proofs.Common.{List, [], append-nil, get_or, refl, set, subst, sym, ℕ, ◌++◌, ◌≡◌}
+use Rattle.std.proofs.Common.{List, get_or, refl, set, ℕ, ◌≡◌}
 use lib.ListN.{get_elem?}
 use lib.Seq.{set-get_or}
 use mathlib.Core.Option.{some}
@@ -15,11 +15,9 @@ use Rattle.nr_core.proofs.Stepping.{stays_quiet}
 -- a load changes no word, and leaves the roles
 pub nothing : {shape : Shape} {words : List ℕ} {roles : List Role} {log : List Entry} (id i : ℕ) {r : Role}
     → Core shape words roles log → get_elem? roles id ≡ some r
-    → Core shape (set words i (get_or words i 0)) (set roles id r) (log ++ [])
-nothing {shape = shape} {words = words} {roles = roles} {log = log} id i {r = r} core at =
-    subst (λ (p : (List ℕ) × (List Role) × (List Entry)). Core shape p.0 p.1 p.2)
-    (λ j. (sym (set-get_or words i 0) j, sym (set_again roles id r at) j, sym (append-nil log) j)) core
+    → Core shape (set words i (get_or words i 0)) (set roles id r) log
+nothing {words = words} {roles = roles} id i {r = r} core at =
+    rw (set-get_or words i 0, set_again roles id r at) core
 
 pub learns : (shape : Shape) (id : ℕ) (role : Role) (place : ℕ) → CanStep shape id role (Load place) (LoadsWord role)
-learns shape id role place words roles log core there = stays_quiet
-    (nothing id place core there) (refl, refl)
+learns shape id role place words roles log core there = stays_quiet (nothing id place core there) (refl, refl)

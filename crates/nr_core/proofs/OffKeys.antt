@@ -1,13 +1,12 @@
 -- A step on a word behind the keys' words, which leaves each slot in its place: it keeps all that stands.
-use Rattle.std.proofs.Common.{Bool, List, [], ap, append-nil, arith, cond, false, get_or, get_or-set_other, length-set}
-use Rattle.std.proofs.Common.{refl, set, subst, suc, sym, true, ℕ, ⊎_elim, ◌%◌, ◌*◌, ◌++◌, ◌+◌, ◌<◌, ◌^◌, ◌∙◌, ◌≡◌, ◌≢◌}
-use Rattle.std.proofs.Common.{◌≤◌}
+use Rattle.std.proofs.Common.{Bool, List, [], ap, arith, cond, false, get_or, get_or-set_other, length-set, refl, set}
+use Rattle.std.proofs.Common.{subst, suc, sym, true, ℕ, ⊎_elim, ◌%◌, ◌*◌, ◌+◌, ◌<◌, ◌^◌, ◌∙◌, ◌≡◌, ◌≢◌, ◌≤◌}
 use lib.ListN.{get_elem?}
 use mathlib.Core.Option.{some}
 use Rattle.nr_model.specs.Histories.{Entry}
 use Rattle.nr_model.specs.Maps.{PartialMap, state_of}
 use Rattle.nr_words.specs.KeyWords.{arrivals_of}
-use Rattle.nr_core.proofs.Frames.{holding_more, shows_more}
+use Rattle.nr_core.proofs.Frames.{holding_more, shows_more, roles_more}
 use Rattle.nr_core.proofs.OnKey.{in_range}
 use Rattle.nr_core.proofs.KeyWords.{is_named}
 use Rattle.nr_core.proofs.Sums.{at_set, below-same, term_le, terms_le, total-set}
@@ -20,6 +19,7 @@ use Rattle.nr_core.specs.declared.roles.Desk.{Desk}
 use Rattle.nr_core.specs.declared.roles.Role.{Role}
 use Rattle.nr_core.specs.declared.roles.Role.TheVariants.{Note, Reader, Writer}
 use Rattle.nr_core.specs.declared.shape.Shape.{Shape}
+use lib.Seq.{set-get_or}
 
 -- a step on a word behind the keys, which keeps each slot's place
 pub off_keys : {shape : Shape} {words : List ℕ} {roles : List Role} {log : List Entry}
@@ -34,7 +34,7 @@ pub off_keys : {shape : Shape} {words : List ℕ} {roles : List Role} {log : Lis
     → ((j : ℕ) (u : Role) → j ≢ id → get_elem? roles j ≡ some u → Knows shape words (map_after shape log) (held roles) u
     → Knows shape (set words i x) (map_after shape log) (held (set roles id r')) u)
     → Knows shape (set words i x) (map_after shape log) (held (set roles id r')) r'
-    → Core shape (set words i x) (set roles id r') (log ++ [])
+    → Core shape (set words i x) (set roles id r') log
 off_keys {shape = shape} {words = words} {roles = roles} {log = log} core id {r = r} r' i x behind at w-same r-same
     keeping conts sums others own =
     let words' = set words i x in
@@ -44,7 +44,7 @@ off_keys {shape = shape} {words = words} {roles = roles} {log = log} core id {r 
     let fits = core.fits.bound in
     let key : (k : ℕ) → k < shape.keys → get_or words' k 0 ≡ get_or words k 0
     = λ k l. get_or-set_other words i k x 0 (λ e. omega arith) in
-    subst (Core shape words' roles') (sym (append-nil log)) record {
+    record {
       fits = core.fits;
       wide = length-set words i x ∙ wide;
       legal = core.legal;
@@ -71,6 +71,23 @@ off_keys {shape = shape} {words = words} {roles = roles} {log = log} core id {r 
       one = omega (arith, total-set is_writer roles id r r' at, core.one);
       few = omega (arith, total-set is_reader roles id r r' at, core.few);
     }
+
+-- a step that changes no word, after which the caller holds and keeps the same slots
+pub load_step : {shape : Shape} {words : List ℕ} {roles : List Role} {log : List Entry}
+    (core : Core shape words roles log) (id : ℕ) {r : Role} (r' : Role) (i : ℕ)
+    → get_elem? roles id ≡ some r → is_writer r' ≡ is_writer r → is_reader r' ≡ is_reader r
+    → ((s : ℕ) → holds s r' ≡ holds s r) → ((s : ℕ) → keeps s r' ≡ keeps s r)
+    → Knows shape words (map_after shape log) (held roles) r'
+    → Core shape (set words i (get_or words i 0)) (set roles id r') log
+load_step {shape} {words} {roles} {log} core id {r} r' i at w-same r-same holding keeping own =
+    rw (set-get_or words i 0)
+    (roles_more core (set roles id r') (λ s. omega (arith, total-set (holds s) roles id r r' at, holding s))
+    (λ s _. omega (arith, total-set (keeps s) roles id r r' at, keeping s))
+    (omega (arith, total-set is_writer roles id r r' at, core.one))
+    (omega (arith, total-set is_reader roles id r r' at, core.few))
+    (λ j u there. ⊎_elim
+    (λ (t : (j ≡ id) × (r' ≡ u)). subst (Knows shape words (map_after shape log) (held roles)) t.1 own)
+    (λ (t : (j ≢ id) × (get_elem? roles j ≡ some u)). core.knows j u t.1) (at_set roles id j r' u there)))
 
 -- the others after a writer's step are no writer
 pub no_writer : {shape : Shape} {words : List ℕ} {roles : List Role} {log : List Entry}

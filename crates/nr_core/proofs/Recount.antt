@@ -1,6 +1,6 @@
 -- A reader's step on a slot's departures, which counts as the reader's hold changes: it keeps all that stands.
-use Rattle.std.proofs.Common.{List, [], ap, arith, get_or, get_or-set_other, get_or-set_same, refl, set, subst, ℕ, ◌%◌}
-use Rattle.std.proofs.Common.{◌*◌, ◌++◌, ◌+◌, ◌<◌, ◌^◌, ◌≡◌, ◌≢◌, ◌≤◌}
+use Rattle.std.proofs.Common.{List, ap, arith, get_or, get_or-set_other, get_or-set_same, refl, set, subst, ℕ, ◌%◌, ◌*◌}
+use Rattle.std.proofs.Common.{◌+◌, ◌<◌, ◌^◌, ◌≡◌, ◌≢◌, ◌≤◌}
 use lib.ListN.{get_elem?}
 use mathlib.Core.Logic.{dite}
 use mathlib.Core.Option.{some}
@@ -28,7 +28,7 @@ pub recounts : {shape : Shape} {words : List ℕ} {roles : List Role} {log : Lis
     → (x + held (set roles id (Reader reader after)) slot) % 2 ^ 40
     ≡ (get_or words (departures shape slot) 0 + held roles slot) % 2 ^ 40
     → (0 < total (keeps slot) roles → 0 < held roles slot) → Grips shape words (map_after shape log) (held roles) after
-    → Core shape (set words (departures shape slot) x) (set roles id (Reader reader after)) (log ++ [])
+    → Core shape (set words (departures shape slot) x) (set roles id (Reader reader after)) log
 recounts {shape = shape} {words = words} {roles = roles} {log = log} core id reader slot x before after near there other
     counted busy own =
     let place : ℕ = departures shape slot in

@@ -30,12 +30,11 @@ under_way story = call_in story.state.desk.place
 -- the call that an event may tell: a reader's find at its first step, and the writer's call at whichever step
 abbrev pub call_told : State → Event → List Call
 call_told state (Arrive reader at) = model.Find at ∷ []
-call_told state (Read reader index) = []
-call_told state (Depart reader) = []
 call_told state (Ask reader at) = model.Ask at ∷ []
 call_told state (FindAgain reader at) = model.Find at ∷ []
 call_told state (Start call) = call_of call ∷ []
 call_told state Go = map call_of (call_in state.desk.place)
+call_told state other = []
 
 -- one entry, of that caller and call
 pub record TellsOne (caller : ℕ) (calls : List Call) (entries : List Entry) : Type 0 where

@@ -34,13 +34,8 @@ use Rattle.nr_core.specs.Accounts.{Accounted}
 
 -- the sets that calls bring are row sets
 abbrev pub IsGiven : ℕ → Event → Type 0
-IsGiven bound (Arrive reader at) = Unit {0}
-IsGiven bound (Read reader index) = Unit {0}
-IsGiven bound (Depart reader) = Unit {0}
-IsGiven bound (Ask reader at) = Unit {0}
-IsGiven bound (FindAgain reader at) = Unit {0}
 IsGiven bound (Start call) = IsGivenCall bound call
-IsGiven bound Go = Unit {0}
+IsGiven bound other = Unit {0}
 
 abbrev pub AllGiven : ℕ → List Event → Type 0
 AllGiven bound [] = Unit {0}
@@ -89,8 +84,7 @@ caller_of_event (Read reader index) = reader
 caller_of_event (Depart reader) = reader
 caller_of_event (Ask reader at) = reader
 caller_of_event (FindAgain reader at) = reader
-caller_of_event (Start call) = 0
-caller_of_event Go = 0
+caller_of_event other = 0
 
 -- the writer's call of which an event is a step
 abbrev pub call_in : Place → List WriterCall

@@ -36,19 +36,12 @@ abbrev pub holds_after : State → Event → ℕ → List Hold
 holds_after state (Arrive reader key) found = with_hold state reader (arrive_hold found)
 holds_after state (Read reader index) found = with_hold state reader (read_hold index found (hold_of state reader))
 holds_after state (Depart reader) found = with_hold state reader Nothing
-holds_after state (Ask reader key) found = state.holds
-holds_after state (FindAgain reader key) found = state.holds
-holds_after state (Start call) found = state.holds
-holds_after state Go found = state.holds
+holds_after state other found = state.holds
 
 abbrev pub desk_after : State → Event → ℕ → Desk
-desk_after state (Arrive reader key) found = state.desk
-desk_after state (Read reader index) found = state.desk
-desk_after state (Depart reader) found = state.desk
-desk_after state (Ask reader key) found = state.desk
-desk_after state (FindAgain reader key) found = state.desk
 desk_after state (Start call) found = desk_in (looked state.shape state.desk call found)
 desk_after state Go found = desk_in (went state.shape state.desk state.desk.place found)
+desk_after state other found = state.desk
 
 -- the word that an event's operation finds
 abbrev pub found_by : State → Event → ℕ

@@ -111,25 +111,20 @@ UnpublishesMarks marks at word after log now news = (now ≡ without_name marks 
 
 -- the writer's later steps, by its stage
 abbrev pub went_marks : Shape → Marks → List Past → Desk → Place → MarkTelling
-went_marks shape marks known desk Idle = KeepsMarks marks
 went_marks shape marks known desk (Reading call slot got) = ReadsOnMarks shape marks desk call slot got
 went_marks shape marks known desk (Leaving at) = UnpublishesMarks marks at
-went_marks shape marks known desk (Withdrawing at) = KeepsMarks marks
 went_marks shape marks known desk (Searching call rows poll) = PollsMarks shape marks known desk call poll
 went_marks shape marks known desk (Putting call rows slot departed index) =
     PutsMarks (nat_le index (2 * length rows)) marks (key_of call) slot rows
+went_marks shape marks known desk other = KeepsMarks marks
 
 abbrev pub GoesMarks : Shape → Marks → List Past → Desk → MarkTelling
 GoesMarks shape marks known desk = went_marks shape marks known desk desk.place
 
 -- a poll is of the slot behind those that were noted
 abbrev pub PollsNext : Place → Marks → Type 0
-PollsNext Idle marks = Unit {0}
-PollsNext (Reading call slot got) marks = Unit {0}
-PollsNext (Leaving at) marks = Unit {0}
-PollsNext (Withdrawing at) marks = Unit {0}
 PollsNext (Searching call rows poll) marks = length marks.polls ≡ poll
-PollsNext (Putting call rows slot departed index) marks = Unit {0}
+PollsNext other marks = Unit {0}
 
 -- the reader was noted at no other slot
 abbrev pub NotedNowhereElse : List Past → Past → Type 0

@@ -36,12 +36,8 @@ Keeps mine slot number = (slice_index mine.puts slot ≡ number) × (is_reaped m
 
 -- no call has put a word into the slot that it doesn't have yet
 abbrev pub Untouched : ℕ → Place → Type 0
-Untouched slot Idle = Unit {0}
-Untouched slot (Reading call read got) = Unit {0}
-Untouched slot (Leaving at) = Unit {0}
-Untouched slot (Withdrawing at) = Unit {0}
-Untouched slot (Searching call rows poll) = Unit {0}
 Untouched slot (Putting call rows taken departed index) = taken ≡ slot → index ≡ 0
+Untouched slot other = Unit {0}
 
 -- what a step tells: of the word that it found, the role, the history and the marks after it, and of what the caller
 -- learnt of readers
@@ -115,12 +111,10 @@ module _ {A : Type 0} (role : A → Role) (marks : A → Marks) where
   -- that put no set, or of reaps
   abbrev pub Sweeping : List A → Desk → List Past → Place → Type 0
   Sweeping callers desk polls Idle = HoldNoOthers callers desk polls
-  Sweeping callers desk polls (Reading call slot got) = polls ≡ []
-  Sweeping callers desk polls (Leaving at) = polls ≡ []
-  Sweeping callers desk polls (Withdrawing at) = polls ≡ []
   Sweeping callers desk polls (Searching call rows poll) =
       HoldNoOthers callers desk polls × (length polls ≡ poll → Sweeps callers desk polls poll)
   Sweeping callers desk polls (Putting call rows slot departed index) = Unit {0}
+  Sweeping callers desk polls other = polls ≡ []
 
   -- the writer's lists are the words' and the history's; put numbers of named or retired slots are different, a hold
   -- has its slot's, slots spell their sets, and no set that a key names or a reader holds was reaped

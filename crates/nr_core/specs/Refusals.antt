@@ -38,19 +38,11 @@ if_unreadable index (On slot size) = if_beyond index size
 -- of a writer that has to be in no call, and of one that has to be in one
 abbrev pub if_busy : Place → Option Refusal
 if_busy Idle = None
-if_busy (Reading call slot got) = Some Busy
-if_busy (Leaving key) = Some Busy
-if_busy (Withdrawing key) = Some Busy
-if_busy (Searching call rows poll) = Some Busy
-if_busy (Putting call rows slot departed index) = Some Busy
+if_busy other = Some Busy
 
 abbrev pub if_not_busy : Place → Option Refusal
 if_not_busy Idle = Some NotBusy
-if_not_busy (Reading call slot got) = None
-if_not_busy (Leaving key) = None
-if_not_busy (Withdrawing key) = None
-if_not_busy (Searching call rows poll) = None
-if_not_busy (Putting call rows slot departed index) = None
+if_not_busy other = None
 
 -- why an event is refused, if it is
 abbrev pub refusal : State → Event → Option Refusal

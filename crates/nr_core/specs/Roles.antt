@@ -18,13 +18,11 @@ is_by caller Note = false
 
 abbrev pub is_writer : Role → ℕ
 is_writer (Writer desk) = 1
-is_writer (Reader reader grip) = 0
-is_writer Note = 0
+is_writer other = 0
 
 abbrev pub is_reader : Role → ℕ
-is_reader (Writer desk) = 0
 is_reader (Reader reader grip) = 1
-is_reader Note = 0
+is_reader other = 0
 
 -- 1 where the reader holds the slot
 abbrev pub grips : ℕ → Grip → ℕ
@@ -32,9 +30,8 @@ grips slot Nothing = 0
 grips slot (On held rows sized) = only slot held
 
 abbrev pub holds : ℕ → Role → ℕ
-holds slot (Writer desk) = 0
 holds slot (Reader reader grip) = grips slot grip
-holds slot Note = 0
+holds slot other = 0
 
 -- how many callers hold the slot
 abbrev pub held : List Role → ℕ → ℕ
@@ -42,12 +39,8 @@ held roles slot = total (holds slot) roles
 
 -- 1 where the writer's call has taken the slot; how often it is retired
 abbrev pub taken : ℕ → Place → ℕ
-taken slot Idle = 0
-taken slot (Reading call named got) = 0
-taken slot (Leaving at) = 0
-taken slot (Withdrawing at) = 0
-taken slot (Searching call rows poll) = 0
 taken slot (Putting call rows mine departed index) = only slot mine
+taken slot other = 0
 
 abbrev pub retirements : ℕ → List Retired → ℕ
 retirements slot retired = total (λ entry. only slot entry.slot) retired
@@ -55,8 +48,7 @@ retirements slot retired = total (λ entry. only slot entry.slot) retired
 -- how often the slot is free, retired or taken
 abbrev pub keeps : ℕ → Role → ℕ
 keeps slot (Writer desk) = unused slot desk.fresh + retirements slot desk.retired + taken slot desk.place
-keeps slot (Reader reader grip) = 0
-keeps slot Note = 0
+keeps slot other = 0
 
 -- that many readers that hold nothing, from one number on
 abbrev pub readers_from : ℕ → ℕ → List Role

@@ -64,9 +64,8 @@ answering caller call reply (Some state) = entry caller call (reply state) ∷ [
 
 -- a call of the writer takes effect where it ends with a reply; no slot is none
 abbrev pub ending : Call → Step → List Entry
-ending call Going = []
 ending call (Ended (writer.Reply reply)) = entry 0 call reply ∷ []
-ending call (Ended (writer.NoSlot counts)) = []
+ending call other = []
 
 -- the same, of the call that is at a stage
 abbrev pub ending_at : Place → Step → List Entry
@@ -81,8 +80,6 @@ ending_at (Putting call rows slot departed index) step = ending (call_of call) s
 -- at its ask
 abbrev pub told : State → Event → List Entry
 told state (Arrive reader at) = answering reader (model.Find at) find_reply (shown state at)
-told state (Read reader index) = []
-told state (Depart reader) = []
 told state (Ask reader at) = answering reader (model.Ask at) ask_reply (shown state at)
 told state (FindAgain reader at) =
     (if names_held (hold_of state reader) (found_by state (FindAgain reader at)) then answering reader (model.Find at)
@@ -91,6 +88,7 @@ told state (FindAgain reader at) =
 told state (Start call) =
     ending (call_of call) (step_in (looked state.shape state.desk call (found_by state (Start call))))
 told state Go = ending_at state.desk.place (step_in (went state.shape state.desk state.desk.place (found_by state Go)))
+told state other = []
 
 -- a poll that found its slot held, and the readers that held it then
 pub record Poll : Type 0 where
@@ -116,24 +114,16 @@ poll_at state poll =
 
 -- the polls of a call that is at a stage, after its next step
 abbrev pub polls_at : State → List Poll → Place → List Poll
-polls_at state polls Idle = polls
-polls_at state polls (Reading call slot got) = polls
-polls_at state polls (Leaving at) = polls
-polls_at state polls (Withdrawing at) = polls
 polls_at state polls (Searching call rows poll) =
     (if same_count (found_by state Go) (retired_at state.desk poll).arrivals then polls else polls ++ poll_at state poll
     ∷ [])
-polls_at state polls (Putting call rows slot departed index) = polls
+polls_at state polls other = polls
 
 -- the polls of the writer's call that found their slots held, after an event; a look begins anew
 abbrev pub polls_after : State → List Poll → Event → List Poll
-polls_after state polls (Arrive reader at) = polls
-polls_after state polls (Read reader index) = polls
-polls_after state polls (Depart reader) = polls
-polls_after state polls (Ask reader at) = polls
-polls_after state polls (FindAgain reader at) = polls
 polls_after state polls (Start call) = []
 polls_after state polls Go = polls_at state polls state.desk.place
+polls_after state polls other = polls
 
 -- a state, the history that led to it, and the polls of the call in flight
 pub record Story : Type 0 where

@@ -97,11 +97,8 @@ renewed shape desk call (Err fault) = (moved_to desk Idle, ended (applied_reply 
 -- the last read of a call, which found this set; only finds and updates read
 abbrev pub decided : Shape → Desk → WriterCall → List Row → Desk × Step
 decided shape desk (Find key) rows = (moved_to desk Idle, ended (reply.Rows rows))
-decided shape desk (Fill key number new) rows = (moved_to desk Idle, Going)
 decided shape desk (Update key batch) rows = renewed shape desk (Update key batch) (applied (bound_of shape) rows batch)
-decided shape desk (Replace key new) rows = (moved_to desk Idle, Going)
-decided shape desk (Evict key) rows = (moved_to desk Idle, Going)
-decided shape desk (Cancel key) rows = (moved_to desk Idle, Going)
+decided shape desk other rows = (moved_to desk Idle, Going)
 
 -- the same, of what the words that were read spell: words that spell no set say nothing, and the call is given up
 abbrev pub decoded : Shape → Desk → WriterCall → Option (List Row) → Desk × Step
