@@ -10,11 +10,9 @@ use Rattle.nr_core.proofs.Choices.{by_cases}
 use Rattle.nr_core.proofs.Guards.{no_some}
 use Rattle.nr_core.proofs.OffKeys.{none_of}
 use Rattle.nr_core.proofs.Poll.{polls}
-use Rattle.nr_core.proofs.Publish.{publishes}
 use Rattle.nr_core.proofs.Put.{puts}
-use Rattle.nr_core.proofs.Settle.{own_ending}
-use Rattle.nr_core.proofs.Unpublish.{unpublishes}
-use Rattle.nr_core.proofs.Withdraw.{withdraws}
+use Rattle.nr_core.proofs.Swap.{publishes, unpublishes, withdraws}
+use Rattle.nr_core.proofs.Settle.{own_ending, Makes}
 use Rattle.nr_core.proofs.WriterRead.{reads_on}
 use Rattle.nr_core.specs.Core.{Core}
 use Rattle.nr_core.specs.Operations.{becomes, going, target_of}
@@ -36,30 +34,19 @@ use Rattle.nr_core.specs.declared.roles.Role.{Role}
 use Rattle.nr_core.specs.declared.roles.Role.TheVariants.{Writer}
 use Rattle.nr_core.specs.declared.shape.Shape.{Shape}
 use Rattle.nr_core.proofs.Stepping.{writer_makes}
-use Rattle.nr_model.specs.declared.calls.Call.TheVariants as model
 use Rattle.nr_core.specs.declared.calls.Refusal.TheVariants as refuse
 use Rattle.nr_model.specs.declared.calls.Reply.TheVariants as reply
 
-goes_at : {shape : Shape} {words : List ℕ} {roles : List Role} {log : List Entry} → Core shape words roles log
-    → (id : ℕ) {desk : Desk}
-    → get_elem? roles id ≡ some (Writer desk) → (place : Place) → desk.place ≡ place → if_not_busy place ≡ None
-    → let operation = going shape desk place in
-    let found = get_or words (target_of operation) 0 in
-    let after = went shape desk place found in
-    Core shape (set words (target_of operation) (becomes operation found)) (set roles id (Writer after.0))
-    (log ++ ending_at place after.1)
-goes_at core id there Idle is_at ok =
-    absurd (no_some (Some refuse.NotBusy) refuse.NotBusy refl ok)
-goes_at core id there (Reading call slot got) is_at ok =
-    reads_on core id there call slot got is_at
-goes_at core id there (Leaving k) is_at ok =
-    unpublishes core id there k is_at
-goes_at core id there (Withdrawing k) is_at ok =
-    withdraws core id there k is_at
-goes_at core id there (Searching call rows poll) is_at ok =
-    polls core id there call rows poll is_at
-goes_at {shape = shape} {words = words} {roles = roles} {log = log} core id {desk = desk} there
-    (Putting call rows slot departed index) is_at ok = by_cases (λ v.
+goes_at : {shape : Shape} {words : List ℕ} {roles : List Role} {log : List Entry} (core : Core shape words roles log)
+    (id : ℕ) {desk : Desk} (there : get_elem? roles id ≡ some (Writer desk)) (place : Place)
+    → if_not_busy place ≡ None → Makes core id there place
+goes_at core id there Idle ok is_at = absurd (no_some (Some refuse.NotBusy) refuse.NotBusy refl ok)
+goes_at core id there (Reading call slot got) ok is_at = reads_on core id there call slot got is_at
+goes_at core id there (Leaving k) ok is_at = unpublishes core id there k is_at
+goes_at core id there (Withdrawing k) ok is_at = withdraws core id there k is_at
+goes_at core id there (Searching call rows poll) ok is_at = polls core id there call rows poll is_at
+goes_at {shape} {words} {roles} {log} core id {desk} there (Putting call rows slot departed index) ok is_at = by_cases
+    (λ v.
     let operation
     = cond {A = Operation} v (Store (content shape slot index) (get_or (encode rows) index 0))
     (Swap (key_of call) (naming slot departed)) in
@@ -76,15 +63,11 @@ goes_at {shape = shape} {words = words} {roles = roles} {log = log} core id {des
 pub own_ending_at : (place : Place) (step : Step) (caller : ℕ)
     → entries_of (ending_at place step) caller ≡ cond (nat_eq 0 caller) (ending_at place step) []
 own_ending_at Idle step caller = none_of (nat_eq 0 caller)
-own_ending_at (Reading call slot got) step caller = own_ending (call_of call) step caller
-own_ending_at (Leaving k) step caller = own_ending (model.Evict k) step caller
-own_ending_at (Withdrawing k) step caller = own_ending (model.Cancel k) step caller
-own_ending_at (Searching call rows poll) step caller = own_ending (call_of call) step caller
-own_ending_at (Putting call rows slot departed index) step caller = own_ending (call_of call) step caller
+own_ending_at other step caller = own_ending _ step caller
 
 pub goes : (shape : Shape) (id : ℕ) (desk : Desk) → if_not_busy desk.place ≡ None
     → CanStep shape id (Writer desk) (going shape desk desk.place) (Goes shape desk)
 goes shape id desk busy words roles log core there =
     let after = went shape desk desk.place (get_or words (target_of (going shape desk desk.place)) 0) in
-    writer_makes after.0 (ending_at desk.place after.1) (goes_at core id there desk.place refl busy)
+    writer_makes after.0 (ending_at desk.place after.1) (goes_at core id there desk.place busy refl)
     (own_ending_at desk.place after.1) (refl, refl)

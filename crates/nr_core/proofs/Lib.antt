@@ -52,11 +52,7 @@ mod OnKey
 mod OffKeys
 mod Stepping
 mod Recount
-mod DeskFrames
 mod Swap
-mod Unpublish
-mod Withdraw
-mod Publish
 mod Put
 mod WriterRead
 mod Shown

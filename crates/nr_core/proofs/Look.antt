@@ -1,6 +1,6 @@
 -- The look, the first step of each call of the writer: by the key's state the call ends, or goes on.
-use Rattle.std.proofs.Common.{Bool, false, true, List, [], ap, arith, eq-eqb, get_or, nat_eq, ne_eqb, refl, set, subst}
-use Rattle.std.proofs.Common.{suc, sym, ℕ, ◌%◌, ◌++◌, ◌<◌, ◌∙◌, ◌≡◌}
+use Rattle.std.proofs.Common.{Bool, false, true, List, [], ap, arith, eq-eqb, get_or, nat_eq, ne_eqb, refl, suc, sym, ℕ}
+use Rattle.std.proofs.Common.{◌%◌, ◌<◌, ◌∙◌, ◌≡◌}
 use Rattle.std.proofs.lemmas.Bool.{ltb-true}
 use Rattle.std.specs.Prelude.{nat_lt}
 use lib.ListN.{get_elem?}
@@ -14,7 +14,7 @@ use Rattle.nr_words.specs.KeyWords.{slot_of}
 use Rattle.nr_core.proofs.Choices.{on_test}
 use Rattle.nr_core.proofs.Frames.{asked_no_hole, not_hole}
 use Rattle.nr_core.proofs.KeyWords.{names_none, names_one}
-use Rattle.nr_core.proofs.Settle.{ends, key_same, own_ending, settles, keeps_moved, moved_desk, moves}
+use Rattle.nr_core.proofs.Settle.{ends, key_same, own_ending, settles, keeps_moved, moved_desk, moves, Comes}
 use Rattle.nr_core.specs.Core.{AtDesk, Core, ShowsState, Reads}
 use Rattle.nr_core.specs.Given.{IsGivenCall}
 use Rattle.nr_core.specs.declared.operation.Operation.TheVariants.{Load}
@@ -27,7 +27,7 @@ use Rattle.nr_core.specs.Writer.{ended, looked, moved_to}
 use Rattle.nr_core.specs.declared.calls.Step.{Step}
 use Rattle.nr_core.specs.declared.calls.Step.TheVariants.{Going}
 use Rattle.nr_core.specs.declared.calls.WriterCall.{WriterCall}
-use Rattle.nr_core.specs.declared.calls.WriterCall.TheVariants.{Cancel, Evict, Fill, Find, Replace, Update}
+use Rattle.nr_core.specs.declared.calls.WriterCall.TheVariants.{Cancel, Evict, Fill, Replace}
 use Rattle.nr_core.specs.declared.places.Place.TheVariants.{Idle, Leaving, Reading, Withdrawing}
 use Rattle.nr_core.specs.declared.roles.Desk.{Desk}
 use Rattle.nr_core.specs.declared.roles.Role.{Role}
@@ -42,9 +42,7 @@ module _ (shape : Shape) (words : List ℕ) (roles : List Role) (log : List Entr
     (id : ℕ) (desk : Desk) (there : get_elem? roles id ≡ some (Writer desk)) (idle : desk.place ≡ Idle) where
   -- what stands after a look that comes to this
   abbrev After : WriterCall → Desk × Step → Type 0
-  After call o =
-      Core shape (set words (key_of call) (get_or words (key_of call) 0)) (set roles id (Writer o.0))
-      (log ++ ending (call_of call) o.1)
+  After call = Comes core id there (key_of call) (call_of call)
 
   abbrev state : WriterCall → KeyState
   state call = state_of (map_after shape log) (key_of call)
@@ -56,16 +54,11 @@ module _ (shape : Shape) (words : List ℕ) (roles : List Role) (log : List Entr
   mine = core.knows id (Writer desk) there
 
   -- a look that ends the call, at a key in that state
-  stops : (call : WriterCall) (y : Reply) (z : KeyState) → key_of call < shape.keys → state call ≡ z
+  stops : (call : WriterCall) (y : Reply) (z : KeyState) → state call ≡ z
       → reply_at (bound_of shape) (call_of call) z ≡ y → state_after (bound_of shape) (call_of call) z ≡ z
       → After call (moved_to desk Idle, ended y)
-  stops call y z near is replies stays = ends core id there (key_of call) (moved_to desk Idle) (call_of call) y
-      (subst (λ (k : ℕ). k < shape.keys) (sym (key_same call)) near)
-      (ap (λ (k : ℕ). reply_at (bound_of shape) (call_of call) (state_of (map_after shape log) k)) (key_same call)
-      ∙ ap (reply_at (bound_of shape) (call_of call)) is ∙ replies)
-      (ap (λ (k : ℕ). state_after (bound_of shape) (call_of call) (state_of (map_after shape log) k)) (key_same call)
-      ∙ ap (state_after (bound_of shape) (call_of call)) is ∙ stays ∙ sym is
-      ∙ ap (state_of (map_after shape log)) (sym (key_same call))) idle_keeps (moved_desk mine Idle tt)
+  stops call y z is replies stays = ends core id there (key_of call) (moved_to desk Idle) (call_of call) y
+      (rw (key_same call) (rw is replies)) (rw (key_same call) (rw is stays)) idle_keeps (moved_desk mine Idle tt)
 
   -- a look after which the set is read
   named_slot : (k s number : ℕ) (rows : List Row) → k < shape.keys → name_number (get_or words k 0) ≡ suc s
@@ -95,38 +88,23 @@ module _ (shape : Shape) (words : List ℕ) (roles : List Role) (log : List Entr
 
   look_all : (call : WriterCall) → IsGivenCall (bound_of shape) call → key_of call < shape.keys
       → (z : KeyState) → AtState call z
-  look_all (Find k) given near (key.Rows n rows) is t =
-      let named = names_one (get_or words k 0) t.0 t.1 in
-      rw named.0 (begins (Find k) (slot_of (get_or words k 0)) n rows near (t.1 ∙ ap suc (sym named.1)) is)
-  look_all (Find k) given near other is t =
-      rw (names_none (get_or words k 0) t.0) (stops (Find k) reply.Hole other near is refl refl)
-  look_all (Update k batch) given near (key.Rows n rows) is t =
-      let named = names_one (get_or words k 0) t.0 t.1 in
-      rw named.0 (begins (Update k batch) (slot_of (get_or words k 0)) n rows near (t.1 ∙ ap suc (sym named.1)) is)
-  look_all (Update k batch) given near other is t =
-      rw (names_none (get_or words k 0) t.0) (stops (Update k batch) reply.Dropped other near is refl refl)
   look_all (Replace k rows) given near (key.Rows n old) is t =
       rw (names_one (get_or words k 0) t.0 t.1).0 (settles core id there k (Replace k rows) rows idle_keeps (record {
         near = near;
         row_set = given;
         no_hole = not_hole (state (Replace k rows)) n old is;
         done = ap (reply_at (bound_of shape) (model.Replace k rows)) is;
-        leaves =
-            cc;
+        leaves = cc;
       }))
-  look_all (Replace k rows) given near other is t =
-      rw (names_none (get_or words k 0) t.0) (stops (Replace k rows) reply.Dropped other near is refl refl)
   look_all (Evict k) given near (key.Rows n rows) is t =
       let named = names_one (get_or words k 0) t.0 t.1 in
       let slot = slot_of (get_or words k 0) in
       rw named.0 (moves core id there k idle (Leaving k) (λ _. refl)
       (slot, named_slot k slot n rows near (t.1 ∙ ap suc (sym named.1)) is))
-  look_all (Evict k) given near other is t =
-      rw (names_none (get_or words k 0) t.0) (stops (Evict k) reply.Nothing other near is refl refl)
   look_all (Fill k number rows) given near (key.Hole n) is t =
       let w = get_or words k 0 in let even = t.1 in
       rw (names_none w t.0, ne_eqb (w % 2) 1 (λ z. omega arith))
-      (stops (Fill k number rows) reply.NotAsked (key.Hole n) near is refl refl)
+      (stops (Fill k number rows) reply.NotAsked (key.Hole n) is refl refl)
   look_all (Fill k number rows) given near (key.Asked n) is t =
       let w = get_or words k 0 in let call = Fill k number rows in let c = model.Fill k number rows in
       let so : (b : Bool) → nat_eq (slot_of w) number ≡ b → nat_eq n number ≡ b
@@ -141,13 +119,13 @@ module _ (shape : Shape) (words : List ℕ) (roles : List Role) (log : List Entr
             ap (state_after (bound_of shape) c) is
             ∙ rw (so true own) (ap (λ (m : ℕ). key.Rows m rows) (sym (ap number_of is)));
       }))
-      (λ other. stops call reply.Stale (key.Asked n) near is (rw (so false other) refl) (rw (so false other) refl)))
+      (λ other. stops call reply.Stale (key.Asked n) is (rw (so false other) refl) (rw (so false other) refl)))
   look_all (Fill k number rows) given near (key.Rows n old) is t =
       rw (names_one (get_or words k 0) t.0 t.1).0
-      (stops (Fill k number rows) reply.Already (key.Rows n old) near is refl refl)
+      (stops (Fill k number rows) reply.Already (key.Rows n old) is refl refl)
   look_all (Cancel k) given near (key.Hole n) is t =
       let w = get_or words k 0 in rw (names_none w t.0, ne_eqb (w % 2) 1 (λ z. omega arith))
-      (stops (Cancel k) reply.Nothing (key.Hole n) near is refl refl)
+      (stops (Cancel k) reply.Nothing (key.Hole n) is refl refl)
   look_all (Cancel k) given near (key.Asked n) is t =
       let w = get_or words k 0 in
       let so : (b : Bool) → nat_lt (slot_of w) last_number ≡ b → nat_lt n last_number ≡ b
@@ -156,10 +134,15 @@ module _ (shape : Shape) (words : List ℕ) (roles : List Role) (log : List Entr
       (on_test (After (Cancel k)) (nat_lt (slot_of w) last_number)
       (λ early. moves core id there k idle (Withdrawing k) (λ _. refl)
       (record { near = near; number = n; asked = is; early = ltb-true n last_number (so true early) }))
-      (λ late. stops (Cancel k) reply.Worn (key.Asked n) near is (rw (so false late) refl) (rw (so false late) refl)))
+      (λ late. stops (Cancel k) reply.Worn (key.Asked n) is (rw (so false late) refl) (rw (so false late) refl)))
   look_all (Cancel k) given near (key.Rows n rows) is t =
-      rw (names_one (get_or words k 0) t.0 t.1).0
-      (stops (Cancel k) reply.Nothing (key.Rows n rows) near is refl refl)
+      rw (names_one (get_or words k 0) t.0 t.1).0 (stops (Cancel k) reply.Nothing (key.Rows n rows) is refl refl)
+  -- a find or an update of a filled key reads its set; a call at any other key ends
+  look_all call given near (key.Rows n rows) is t =
+      let w = get_or words (key_of call) 0 in
+      let named = names_one w t.0 t.1 in
+      rw named.0 (begins call (slot_of w) n rows near (t.1 ∙ ap suc (sym named.1)) is)
+  look_all call given near z is t = rw (names_none (get_or words _ 0) t.0) (stops call _ z is refl refl)
 
 pub looks : (shape : Shape) (id : ℕ) (desk : Desk) (call : WriterCall) → desk.place ≡ Idle
     → IsGivenCall (bound_of shape) call → key_of call < shape.keys

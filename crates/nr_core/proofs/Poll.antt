@@ -1,7 +1,7 @@
 -- A poll of a retired slot: the slot is taken where nobody holds it, else the call polls the next, or ends with no
 -- slot. A search may poll any of them, and be given up.
-use Rattle.std.proofs.Common.{[], List, true, ◌<◌, ap, arith, cond, get_or, length, nat_eq, refl, set, ℕ, ◌%◌}
-use Rattle.std.proofs.Common.{◌++◌, ◌+◌, ◌^◌, ◌≡◌, ◌≤◌}
+use Rattle.std.proofs.Common.{[], List, true, ◌<◌, ap, arith, cond, get_or, length, nat_eq, refl, set, ℕ, ◌%◌, ◌++◌}
+use Rattle.std.proofs.Common.{◌+◌, ◌^◌, ◌≡◌, ◌≤◌, append-nil}
 use Rattle.std.proofs.lemmas.Bool.{eqb-true, ltb-true}
 use Rattle.std.specs.Prelude.{nat_lt}
 use lib.ListN.{get_elem?}
@@ -13,16 +13,15 @@ use Rattle.nr_core.proofs.Choices.{on_test}
 use Rattle.nr_core.proofs.Learn.{nothing}
 use Rattle.nr_core.proofs.OffKeys.{none_of}
 use Rattle.nr_core.specs.StepLaws.{GiveUpLaw, TryLaw}
-use Rattle.nr_core.proofs.Settle.{goes_on, moves}
+use Rattle.nr_core.proofs.Settle.{goes_on, moves, Comes, Makes}
 use Rattle.nr_core.proofs.Sums.{at_remove, got_at, only-le, total-le, total-remove}
 use Rattle.nr_core.specs.Core.{Core}
 use Rattle.nr_core.specs.Roles.{held, holds, is_reader, taken}
 use Rattle.nr_core.specs.Slots.{departures}
 use Rattle.nr_core.specs.States.{no_retired, retired_at}
-use Rattle.nr_core.specs.Story.{call_of, ending}
+use Rattle.nr_core.specs.Story.{call_of}
 use Rattle.nr_core.specs.Sums.{only}
-use Rattle.nr_core.specs.Writer.{moved_to, polled, taking_retired}
-use Rattle.nr_core.specs.declared.calls.Step.{Step}
+use Rattle.nr_core.specs.Writer.{moved_to, taking_retired}
 use Rattle.nr_core.specs.declared.calls.WriterCall.{WriterCall}
 use Rattle.nr_core.specs.declared.places.Place.TheVariants.{Idle, Searching}
 use Rattle.nr_core.specs.declared.places.Retired.{Retired}
@@ -85,24 +84,16 @@ takes {shape = shape} {words = words} {roles = roles} {log = log} core id {desk 
     })
 
 pub polls : {shape : Shape} {words : List ℕ} {roles : List Role} {log : List Entry} (core : Core shape words roles log)
-    (id : ℕ) {desk : Desk} → get_elem? roles id ≡ some (Writer desk) → (call : WriterCall) (rows : List Row) (poll : ℕ)
-    → desk.place ≡ Searching call rows poll
-    → let place = departures shape (retired_at desk poll).slot in
-    Core shape (set words place (get_or words place 0))
-    (set roles id (Writer (polled shape desk call rows poll (get_or words place 0)).0))
-    (log ++ ending (call_of call) (polled shape desk call rows poll (get_or words place 0)).1)
-polls {shape = shape} {words = words} {roles = roles} {log = log} core id {desk = desk} there call rows poll is_at =
-    let known = core.knows id (Writer desk) there in
+    (id : ℕ) {desk : Desk} (there : get_elem? roles id ≡ some (Writer desk)) (call : WriterCall) (rows : List Row)
+    (poll : ℕ) → Makes core id there (Searching call rows poll)
+polls {shape} {words} core id {desk} there call rows poll is_at =
     let z : Retired = retired_at desk poll in
-    let slot : ℕ = z.slot in
-    let place : ℕ = departures shape slot in
+    let place : ℕ = departures shape z.slot in
     let found : ℕ = get_or words place 0 in
     let at_p = stands_at core id there is_at in
-    let Good : Desk × Step → Type 0
-    = λ o. Core shape (set words place found) (set roles id (Writer o.0)) (log ++ ending (call_of call) o.1) in
-    on_test Good (nat_eq (found % 2 ^ 40) (z.arrivals % 2 ^ 40))
+    on_test (Comes core id there place (call_of call)) (nat_eq (found % 2 ^ 40) (z.arrivals % 2 ^ 40))
     (λ yes. takes core id there call rows poll poll is_at at_p.1 yes)
-    (λ _. on_test Good (nat_lt (poll + 1) (length desk.retired))
+    (λ _. on_test (Comes core id there place (call_of call)) (nat_lt (poll + 1) (length desk.retired))
     (λ more. moves core id there place is_at (Searching call rows (poll + 1)) (λ _. refl)
     (at_p.0, ltb-true (poll + 1) (length desk.retired) more, at_p.2))
     (λ none. moves core id there place is_at Idle (λ _. refl) tt))
@@ -117,7 +108,7 @@ tries shape id desk call rows at poll is_at low words roles log core there =
     writer_makes (cond {A = Desk} (same_count found entry.arrivals) taken_it desk) []
     (on_test (λ (d : Desk). Core shape (set words place found) (set roles id (Writer d)) (log ++ []))
     (same_count found entry.arrivals) (λ agrees. takes core id there call rows at poll is_at low agrees)
-    (λ _. nothing id place core there)) (λ caller. none_of (nat_eq 0 caller)) (refl, refl)
+    (λ _. rw (append-nil log) (nothing id place core there))) (λ caller. none_of (nat_eq 0 caller)) (refl, refl)
 
 -- or is given up
 pub gives_up : GiveUpLaw

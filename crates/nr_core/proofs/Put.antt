@@ -1,6 +1,6 @@
 -- The writer puts one word of its set into the slot that it took.
 use Rattle.std.proofs.Common.{List, [], ap, arith, get_or, get_or-set_other, get_or-set_same, length, refl, set, subst}
-use Rattle.std.proofs.Common.{sym, ℕ, ◌%◌, ◌*◌, ◌++◌, ◌+◌, ◌<◌, ◌^◌, ◌∙◌, ◌≡◌, ◌≢◌, ◌≤◌}
+use Rattle.std.proofs.Common.{sym, ℕ, ◌*◌, ◌++◌, ◌+◌, ◌<◌, ◌∙◌, ◌≡◌, ◌≢◌, ◌≤◌, append-nil}
 use lib.ListN.{get_elem?}
 use mathlib.Core.Logic.{dite}
 use mathlib.Core.Option.{some}
@@ -9,7 +9,7 @@ use Rattle.nr_model.specs.Histories.{Entry}
 use Rattle.nr_model.specs.declared.rows.Row.{Row}
 use Rattle.nr_words.proofs.SetWordLemmas.{length-row_words}
 use Rattle.nr_words.specs.SetWords.{encode}
-use Rattle.nr_core.proofs.Frames.{Left, free_more, retired_more, unused-free, stands_at}
+use Rattle.nr_core.proofs.Frames.{Left, free_more, retired_more, unused-free, stands_at, left_so}
 use Rattle.nr_core.proofs.OffKeys.{no_writer, off_keys}
 use Rattle.nr_core.proofs.Sums.{only-same, term_le, total-set}
 use Rattle.nr_core.proofs.WordPlaces.{content_apart, content_inside, same_content}
@@ -60,13 +60,9 @@ puts {shape = shape} {words = words} {roles = roles} {log = log} core id {desk =
     let here = get_or-set_same words w x 0 (omega (arith, content_inside shape slot index near (omega arith))) in
     let still : (s : ℕ) → held roles' s ≡ held roles s
     = λ s. let same = total-set (holds s) roles id (Writer desk) (Writer desk') there in omega arith in
-    let sum : (s : ℕ)
-    → (get_or words' (departures shape s) 0 + held roles' s) % 2 ^ 40
-    ≡ (get_or words (departures shape s) 0 + held roles s) % 2 ^ 40
-    = λ s. ap (λ (pair : ℕ × ℕ). (pair.0 + pair.1) % 2 ^ 40) (λ j. (dep s j, still s j)) in
     let left : (s : ℕ) → s ≢ slot → Left shape words words' map map (held roles) (held roles') s
-    = λ s ne.
-    record { contents = λ j low. cont s j ne low; nobody = λ z. still s ∙ z; deps = λ _. dep s; sum = sum s } in
+    = λ s ne. left_so shape words words' map map (held roles) (held roles') s (λ j low. cont s j ne low) (dep s) (still s)
+    in
     let own : AtDesk shape words' map (held roles') desk' = record {
       place = record {
         wants = assumption putting.wants;
@@ -91,10 +87,10 @@ puts {shape = shape} {words = words} {roles = roles} {log = log} core id {desk =
           omega arith)) mine.retired;
       numbers = mine.numbers;
     } in
-    off_keys core id (Writer desk') w x (omega arith) there refl refl
+    rw (append-nil log) (off_keys core id (Writer desk') w x (omega arith) there refl refl
     (λ s _. keeps_moved desk (Putting call rows slot departed index)
     (Putting call rows slot departed (index + 1)) is_at (λ _. refl) s) (λ s j l low is-named. cont s j
     (λ z. let n : 0 < named shape words slot = subst (λ (y : ℕ). 0 < named shape words y) z is-named in omega arith)
-    low) (λ s _ _. sum s) (no_writer core words' map (held roles') id there (λ s j taken-by l low. cont s j
+    low) (λ s _ _. omega (arith, dep s, still s)) (no_writer core words' map (held roles') id there (λ s j taken-by l low. cont s j
     (λ z. let n : 0 < held roles slot = subst (λ (y : ℕ). 0 < held roles y) z taken-by in omega arith) low))
-    own
+    own)

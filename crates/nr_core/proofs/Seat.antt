@@ -1,55 +1,33 @@
 -- One more caller, who holds no slot: it knows nothing, and nothing changes for the others.
-use Rattle.std.proofs.Common.{List, [], ap, arith, get_or, refl, subst, sym, ℕ, ⊎_elim, ◌%◌, ◌++◌, ◌+◌, ◌<◌, ◌^◌, ◌∙◌}
-use Rattle.std.proofs.Common.{◌∷◌, ◌≡◌, ◌≤◌}
+use Rattle.std.proofs.Common.{List, [], arith, refl, subst, ℕ, ⊎_elim, ◌++◌, ◌+◌, ◌<◌, ◌∷◌, ◌≡◌, ◌≤◌}
 use lib.ListN.{get_elem?}
 use mathlib.Core.Option.{some}
 use Rattle.nr_model.specs.Histories.{Entry}
-use Rattle.nr_core.proofs.Frames.{Left, knows_more}
 use Rattle.nr_core.proofs.Sums.{at_snoc, total-append}
 use Rattle.nr_core.specs.Core.{Core, Knows}
 use Rattle.nr_core.specs.Roles.{held, holds, is_reader, is_writer, keeps}
-use Rattle.nr_core.specs.Slots.{departures}
 use Rattle.nr_core.specs.Story.{map_after}
 use Rattle.nr_core.specs.Sums.{total}
 use Rattle.nr_core.specs.declared.roles.Grip.TheVariants.{Nothing}
 use Rattle.nr_core.specs.declared.roles.Role.{Role}
 use Rattle.nr_core.specs.declared.roles.Role.TheVariants.{Note, Reader}
 use Rattle.nr_core.specs.declared.shape.Shape.{Shape}
+use Rattle.nr_core.proofs.Frames.{roles_more}
 
 seated : (shape : Shape) (words : List ℕ) (roles : List Role) (log : List Entry) (role : Role)
     → Core shape words roles log → is_writer role ≡ 0
     → is_reader role + total is_reader roles ≤ shape.readers → ((s : ℕ) → holds s role ≡ 0)
     → ((s : ℕ) → keeps s role ≡ 0)
-    → Knows shape words (map_after shape log) (held (roles ++ role ∷ [])) role
+    → Knows shape words (map_after shape log) (held roles) role
     → Core shape words (roles ++ role ∷ []) log
 seated shape words roles log role core no_writer few no_hold no_keep own =
-    let roles' = roles ++ role ∷ [] in
-    let map = map_after shape log in
-    let still : (s : ℕ) → held roles' s ≡ held roles s
-    = λ s. omega (arith, total-append (holds s) roles (role ∷ []), no_hold s) in
-    let left : (s : ℕ) → Left shape words words map map (held roles) (held roles') s = λ s. record {
-      contents = λ _ _. refl;
-      nobody = λ z. still s
-          ∙ z;
-      deps = λ _. refl;
-      sum = ap (λ (y : ℕ). (get_or words (departures shape s) 0 + y) % 2 ^ 40) (still s);
-    } in
-    let others : (u : Role) → Knows shape words map (held roles) u → Knows shape words map (held roles') u
-    = λ u. knows_more shape words words map map (held roles) (held roles') (λ _ _. refl) (λ _ _. refl) u (λ _. refl)
-    (λ s _ _. left s) (λ _ _ _. refl) in
-    record {
-      fits = core.fits;
-      wide = core.wide;
-      legal = core.legal;
-      shows = core.shows;
-      places = λ s l. omega (arith, core.places s l, total-append (keeps s) roles (role ∷ []), no_keep s);
-      counts = λ k s l e. core.counts k s l e
-          ∙ ap (λ (y : ℕ). (get_or words (departures shape s) 0 + y) % 2 ^ 40) (sym (still s));
-      knows = λ j u there. ⊎_elim (λ (t : get_elem? roles j ≡ some u). others u (core.knows j u t))
-          (λ (t : role ≡ u). subst (Knows shape words map (held roles')) t own) (at_snoc roles role u j there);
-      one = omega (arith, core.one, total-append is_writer roles (role ∷ []));
-      few = omega (arith, few, total-append is_reader roles (role ∷ []));
-    }
+    let more = roles ++ role ∷ [] in
+    roles_more core more (λ s. omega (arith, total-append (holds s) roles (role ∷ []), no_hold s))
+    (λ s _. omega (arith, total-append (keeps s) roles (role ∷ []), no_keep s))
+    (omega (arith, core.one, total-append is_writer roles (role ∷ [])))
+    (omega (arith, few, total-append is_reader roles (role ∷ [])))
+    (λ j u there. ⊎_elim (λ (t : get_elem? roles j ≡ some u). core.knows j u t)
+    (λ (t : role ≡ u). subst (Knows shape words (map_after shape log) (held roles)) t own) (at_snoc roles role u j there))
 
 -- a reader joins, where there is room for one more
 pub seats : (shape : Shape) (words : List ℕ) (roles : List Role) (log : List Entry) (reader : ℕ)

@@ -1,41 +1,40 @@
 -- The writer's steps that leave all words: the call goes on, takes a slot or has none (settles), or ends with a reply
 -- (ends).
-use Rattle.std.proofs.Common.{[], List, ap, append-nil, arith, cond, get_or, length, nat_eq, refl, set, subst, sym}
-use Rattle.std.proofs.Common.{ℕ, ◌++◌, ◌+◌, ◌<◌, ◌∙◌, ◌∷◌, ◌≡◌, ◌≤◌}
+use Rattle.std.proofs.Common.{[], List, ap, append-nil, arith, cond, get_or, length, nat_eq, refl, set, sym, ℕ, ◌++◌}
+use Rattle.std.proofs.Common.{◌+◌, ◌<◌, ◌∙◌, ◌≡◌, ◌≤◌}
 use Rattle.std.proofs.lemmas.Bool.{eqb-false, lt-leb, ltb-false, ltb-true}
 use Rattle.std.specs.Prelude.{nat_lt}
 use lib.ListN.{get_elem?}
 use mathlib.Core.Logic.{dite}
 use mathlib.Core.Option.{some}
 use native.Mathlib.Decide.{dec_le, ℕ_discrete}
-use Rattle.nr_model.specs.Histories.{Entry, IsLegal, entries_of}
+use Rattle.nr_model.specs.Histories.{Entry, entries_of}
 use Rattle.nr_model.specs.Maps.{PartialMap, call_key, reply_at, state_after, state_of}
 use Rattle.nr_model.specs.declared.calls.Call.{Call}
 use Rattle.nr_model.specs.declared.calls.Reply.{Reply}
 use Rattle.nr_model.specs.declared.rows.Row.{Row}
 use Rattle.nr_core.proofs.Choices.{on_test}
-use Rattle.nr_core.proofs.DeskFrames.{desk_step}
-use Rattle.nr_core.proofs.Frames.{unused-free}
-use Rattle.nr_core.proofs.Histories.{legal-more, replies_so, state_other, state_same}
-use Rattle.nr_core.proofs.OffKeys.{none_of}
+use Rattle.nr_core.proofs.Frames.{unused-free, entry_more}
+use Rattle.nr_core.proofs.OffKeys.{none_of, load_step}
 use Rattle.nr_core.proofs.Sums.{only-other, only-same}
 use Rattle.nr_core.specs.Core.{AtDesk, Core, Wants, AtPlace}
 use Rattle.nr_core.specs.Roles.{held, keeps, taken}
 use Rattle.nr_core.specs.Slots.{bound_of, unused}
 use Rattle.nr_core.specs.States.{key_of}
-use Rattle.nr_core.specs.Story.{call_of, ending, entry, map_after, opening_map}
+use Rattle.nr_core.specs.Story.{call_of, ending, entry, map_after, ending_at}
 use Rattle.nr_core.specs.Sums.{only}
-use Rattle.nr_core.specs.Writer.{moved_to, settled}
+use Rattle.nr_core.specs.Writer.{moved_to, settled, ended, went}
 use Rattle.nr_core.specs.declared.calls.Step.{Step}
 use Rattle.nr_core.specs.declared.calls.Step.TheVariants.{Ended}
 use Rattle.nr_core.specs.declared.calls.WriterCall.{WriterCall}
-use Rattle.nr_core.specs.declared.calls.WriterCall.TheVariants.{Cancel, Evict, Fill, Find, Replace, Update}
+use Rattle.nr_core.specs.declared.calls.WriterCall.TheVariants.{Find}
 use Rattle.nr_core.specs.declared.places.Place.TheVariants.{Idle, Searching}
 use Rattle.nr_core.specs.declared.roles.Desk.{Desk}
 use Rattle.nr_core.specs.declared.roles.Role.{Role}
 use Rattle.nr_core.specs.declared.roles.Role.TheVariants.{Writer}
 use Rattle.nr_core.specs.declared.shape.Shape.{Shape}
 use Rattle.nr_core.specs.declared.places.Place.{Place}
+use Rattle.nr_core.specs.Operations.{becomes, going, target_of}
 use Rattle.nr_core.specs.declared.calls.WReply.TheVariants as writer
 
 -- 1 of a slot that was never taken, and what a taking leaves
@@ -55,11 +54,7 @@ unused-next s f = dite (dec_le (f + 1) s)
 
 pub key_same : (call : WriterCall) → call_key (call_of call) ≡ key_of call
 key_same (Find k) = refl
-key_same (Fill k number rows) = refl
-key_same (Update k batch) = refl
-key_same (Replace k rows) = refl
-key_same (Evict k) = refl
-key_same (Cancel k) = refl
+key_same other = refl
 
 pub own_ending : (call : Call) (s : Step) (b : ℕ) → entries_of (ending call s) b ≡ cond (nat_eq 0 b) (ending call s) []
 own_ending call (Ended (writer.Reply y)) b = refl
@@ -117,47 +112,56 @@ module _ (shape : Shape) (words : List ℕ) (map : PartialMap) (hold : ℕ → �
       (λ _. on_test Quiet (nat_eq (length desk.retired) 0) (λ _. refl) (λ _. refl))
 
 module _ {shape : Shape} {words : List ℕ} {roles : List Role} {log : List Entry} (core : Core shape words roles log)
-    (id : ℕ) {desk : Desk} (there : get_elem? roles id ≡ some (Writer desk)) (place : ℕ) where
-  -- a step on a word that stays, which ends the call with a reply and changes no state
-  pub ends : (desk' : Desk) (c : Call) (y : Reply) → call_key c < shape.keys
-      → reply_at (bound_of shape) c (state_of (map_after shape log) (call_key c)) ≡ y
-      → state_after (bound_of shape) c (state_of (map_after shape log) (call_key c))
-      ≡ state_of (map_after shape log) (call_key c)
-      → ((s : ℕ) → keeps s (Writer desk') ≡ keeps s (Writer desk))
-      → AtDesk shape words (map_after shape log) (held roles) desk'
-      → Core shape (set words place (get_or words place 0)) (set roles id (Writer desk')) (log ++ entry 0 c y ∷ [])
-  ends desk' c y near replies stays same own = desk_step (entry 0 c y ∷ []) core id place there
-      (legal-more shape log (entry 0 c y) core.legal (sym (replies_so shape log c ∙ replies)))
-      (λ j. dite (ℕ_discrete j (call_key c)) (λ e. ap (state_of (map_after shape (log ++ entry 0 c y ∷ []))) e
-      ∙ state_same shape log (entry 0 c y) near ∙ stays ∙ ap (state_of (map_after shape log)) (sym e))
-      (λ ne. state_other shape log (entry 0 c y) j ne))
-      (λ s _. same s) own
+    (id : ℕ) {desk : Desk} (there : get_elem? roles id ≡ some (Writer desk)) where
+  -- the core stands after a load of the word at a place, after which the call comes to that outcome
+  abbrev pub Comes : ℕ → Call → Desk × Step → Type 0
+  Comes place c outcome =
+      Core shape (set words place (get_or words place 0)) (set roles id (Writer outcome.0)) (log ++ ending c outcome.1)
 
-  -- a step on a word that stays, after which the call goes on or has no slot
-  pub goes_on : (desk' : Desk) → ((s : ℕ) → keeps s (Writer desk') ≡ keeps s (Writer desk))
-      → AtDesk shape words (map_after shape log)
-      (held roles) desk' → Core shape (set words place (get_or words place 0)) (set roles id (Writer desk')) (log ++ [])
-  goes_on desk' same own = desk_step [] core id place there
-      (subst (IsLegal (opening_map shape)) (sym (append-nil log)) core.legal)
-      (λ j. ap (λ l. state_of (map_after shape l) j) (append-nil log))
-      (λ s _. same s) own
+  -- the writer's step from a place is made
+  abbrev pub Makes : Place → Type 0
+  Makes place =
+      desk.place ≡ place →
+      let operation = going shape desk place in
+      let found = get_or words (target_of operation) 0 in
+      let after = went shape desk place found in
+      Core shape (set words (target_of operation) (becomes operation found)) (set roles id (Writer after.0))
+      (log ++ ending_at place after.1)
 
-  -- the call is at another stage, which keeps the same slots
-  pub moves : {from : Place} → desk.place ≡ from → (to : Place) → ((s : ℕ) → taken s to ≡ taken s from)
-      → AtPlace shape words (map_after shape log) (held roles) desk.fresh desk.retired to
-      → Core shape (set words place (get_or words place 0)) (set roles id (Writer (moved_to desk to))) (log ++ [])
-  moves {from} is to same at = goes_on (moved_to desk to) (keeps_moved desk from to is same)
-      (moved_desk (core.knows id (Writer desk) there) to at)
+  module _ (place : ℕ) where
+    -- a step on a word that stays, which ends the call with a reply and changes no state
+    pub ends : (desk' : Desk) (c : Call) (y : Reply)
+        → reply_at (bound_of shape) c (state_of (map_after shape log) (call_key c)) ≡ y
+        → state_after (bound_of shape) c (state_of (map_after shape log) (call_key c))
+        ≡ state_of (map_after shape log) (call_key c)
+        → ((s : ℕ) → keeps s (Writer desk') ≡ keeps s (Writer desk))
+        → AtDesk shape words (map_after shape log) (held roles) desk' → Comes place c (desk', ended y)
+    ends desk' c y replies stays same own =
+        entry_more (load_step core id (Writer desk') place there refl refl (λ _. refl) same own) (entry 0 c y)
+        (sym replies) stays
 
-  -- a call that finds a slot for its set, or polls, or has none
-  pub settles : (call : WriterCall) (rows : List Row)
-      → ((s : ℕ) → keeps s (Writer (moved_to desk Idle)) ≡ keeps s (Writer desk))
-      → Wants shape words (map_after shape log) (held roles) call rows
-      → Core shape (set words place (get_or words place 0)) (set roles id (Writer (settled shape desk call rows).0))
-      (log ++ ending (call_of call) (settled shape desk call rows).1)
-  settles call rows same wants =
-      rw (settle_quiet shape words (map_after shape log) (held roles) desk call rows (call_of call))
-      (goes_on (settled shape desk call rows).0
-      (λ s. settle_keeps shape words (map_after shape log) (held roles) desk call rows s ∙ same s)
-      (settle_desk shape words (map_after shape log) (held roles) desk call rows
-      (moved_desk (core.knows id (Writer desk) there) Idle tt) wants))
+    -- a step on a word that stays, after which the call goes on or has no slot
+    pub goes_on : (desk' : Desk) → ((s : ℕ) → keeps s (Writer desk') ≡ keeps s (Writer desk))
+        → AtDesk shape words (map_after shape log) (held roles) desk'
+        → Core shape (set words place (get_or words place 0)) (set roles id (Writer desk')) (log ++ [])
+    goes_on desk' same own =
+        rw (append-nil log) (load_step core id (Writer desk') place there refl refl (λ _. refl) same own)
+
+    -- the call is at another stage, which keeps the same slots
+    pub moves : {from : Place} → desk.place ≡ from → (to : Place) → ((s : ℕ) → taken s to ≡ taken s from)
+        → AtPlace shape words (map_after shape log) (held roles) desk.fresh desk.retired to
+        → Core shape (set words place (get_or words place 0)) (set roles id (Writer (moved_to desk to))) (log ++ [])
+    moves {from} is to same at = goes_on (moved_to desk to) (keeps_moved desk from to is same)
+        (moved_desk (core.knows id (Writer desk) there) to at)
+
+    -- a call that finds a slot for its set, or polls, or has none
+    pub settles : (call : WriterCall) (rows : List Row)
+        → ((s : ℕ) → keeps s (Writer (moved_to desk Idle)) ≡ keeps s (Writer desk))
+        → Wants shape words (map_after shape log) (held roles) call rows
+        → Comes place (call_of call) (settled shape desk call rows)
+    settles call rows same wants =
+        rw (settle_quiet shape words (map_after shape log) (held roles) desk call rows (call_of call))
+        (goes_on (settled shape desk call rows).0
+        (λ s. settle_keeps shape words (map_after shape log) (held roles) desk call rows s ∙ same s)
+        (settle_desk shape words (map_after shape log) (held roles) desk call rows
+        (moved_desk (core.knows id (Writer desk) there) Idle tt) wants))
