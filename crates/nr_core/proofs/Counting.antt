@@ -1,7 +1,7 @@
 -- How many slots are where, of any core state: a retired slot stands once, the retired ones are no more than the slots,
 -- and once every slot was taken the filled keys and the retired slots are all of them.
-use Rattle.std.proofs.Common.{Bool, List, [], ap, arith, cond, get_or, length, refl, set, subst, suc, sym, ℕ}
-use Rattle.std.proofs.Common.{zero, ◌+◌, ◌<◌, ◌∙◌, ◌∷◌, ◌≡◌, ◌≤◌}
+use Rattle.std.proofs.Common.{Bool, List, [], ap, arith, cond, get_or, length, refl, set, subst, suc, sym, ℕ, zero, ◌+◌}
+use Rattle.std.proofs.Common.{◌<◌, ◌∙◌, ◌∷◌, ◌≡◌, ◌≤◌}
 use Rattle.std.proofs.lemmas.Bool.{lt-leb}
 use Rattle.std.specs.List.{count_by}
 use lib.ListN.{get_elem?}
@@ -17,9 +17,8 @@ use Rattle.nr_core.proofs.Histories.{length-now}
 use Rattle.nr_core.proofs.OnKey.{in_range}
 use Rattle.nr_core.proofs.KeyWords.{is_named}
 use Rattle.nr_core.proofs.Sums.{below-exchanged, below-few, below-fewer, below-first, below-one, below-only, below-same}
-use Rattle.nr_core.proofs.Sums.{below-sum, below-zero, exchanged, only-is, only-same, only-suc, only-zero}
-use Rattle.nr_core.proofs.Sums.{some_term, terms_le}
-use Rattle.nr_core.proofs.Sums.{total-set}
+use Rattle.nr_core.proofs.Sums.{below-sum, below-zero, exchanged, only-is, only-same, only-suc, only-zero, some_term}
+use Rattle.nr_core.proofs.Sums.{terms_le, total-set}
 use Rattle.nr_core.specs.Core.{Core, ShowsState}
 use Rattle.nr_core.specs.Roles.{is_writer, keeps, retirements, taken}
 use Rattle.nr_core.specs.Slots.{name_number, named, unused}
@@ -153,12 +152,11 @@ module _ (shape : Shape) (words : List ℕ) (roles : List Role) (log : List Entr
 
       go : (z : KeyState) → ShowsState shape words w z
           → below (λ s. only (suc s) (name_number w)) shape.slots ≡ cond (is_filled_key z) 1 0
-      go (key.Hole number) t = none t.0
-      go (key.Asked number) t = none t.0
       go (key.Rows number rows) t =
           below-same (λ s. only (suc s) (name_number w)) (λ s. only s t.0) shape.slots
           (λ s _. ap (only (suc s)) t.1 ∙ only-suc s t.0)
           ∙ (below-only t.0 shape.slots).0 t.2
+      go other t = none t.0
 
   -- each filled key names one slot
   pub named_are_filled : below (named shape words) shape.slots ≡ filled_count (map_after shape log)

@@ -5,7 +5,6 @@ use Rattle.std.proofs.lemmas.Bool.{eqb-true}
 use lib.Seq.{set-get_or}
 use Rattle.nr_model.specs.Histories.{Entry}
 use Rattle.nr_model.specs.declared.rows.Row.{Row}
-use Rattle.nr_core.proofs.Choices.{by_cases}
 use Rattle.nr_core.proofs.Counting.{named_inside}
 use Rattle.nr_core.proofs.KeyWords.{is_named}
 use Rattle.nr_core.specs.Steps.{FindsAgain}
@@ -24,6 +23,7 @@ use Rattle.nr_core.proofs.DeskMarks.{desk_of}
 use Rattle.nr_core.proofs.ReaderMarks.{reader_step, contents_loaded}
 use Rattle.nr_core.proofs.LearnMarks.{held_lives}
 use Rattle.nr_core.proofs.PutNumbers.{QuietEnd, none_end, one_ends}
+use Rattle.nr_core.proofs.Choices.{either}
 use Rattle.nr_model.specs.declared.calls.Call.TheVariants as model
 use Rattle.nr_model.specs.declared.calls.Reply.TheVariants as reply
 
@@ -64,8 +64,7 @@ module _ {A : Type 0} (role : A → Role) (marks : A → Marks) where
           subst (λ (p : Bool × ℕ). ComparesPuts p.0 word (marks me).put p.1) (λ i. (sym b_is i, sym (ends.0 key) i))
               compares,
         ) in
-        by_cases (λ _. Remarked role marks shape words callers log id (Load key) me after entries tells)
-        (names_slot slot word)
+        either (names_slot slot word)
         (λ yes. let same : name_number word ≡ suc slot = eqb-true (name_number word) (suc slot) yes in
         finish true yes
         (one_ends log entries e (ans.1 ∙ ap (λ (b : Bool). cond {A = List Entry} b (e ∷ []) []) yes) refl)

@@ -1,6 +1,6 @@
 -- What one event more does: one operation on one word, never a put into a held slot, and entries of its own caller.
-use Rattle.std.proofs.Common.{[], Bool, true, false, sym, List, ap, append-nil, arith, cond, length, nat_eq, refl}
-use Rattle.std.proofs.Common.{ℕ, ◌*◌, ◌++◌, ◌<◌, ◌∙◌, ◌≡◌, ◌≢◌, ◌≤◌}
+use Rattle.std.proofs.Common.{[], Bool, true, false, sym, List, ap, append-nil, arith, cond, length, nat_eq, refl, ℕ}
+use Rattle.std.proofs.Common.{◌*◌, ◌++◌, ◌<◌, ◌∙◌, ◌≡◌, ◌≢◌, ◌≤◌}
 use Rattle.std.proofs.lemmas.Bool.{eqb-true, leb-true}
 use Rattle.std.specs.Prelude.{None, Option, Some, nat_le}
 use Rattle.nr_model.specs.Histories.{Entry, entries_of}
@@ -25,8 +25,7 @@ use Rattle.nr_core.specs.Operations.{going, operation, target_of}
 use Rattle.nr_core.specs.declared.operation.Operation.{Operation}
 use Rattle.nr_core.specs.declared.operation.Operation.TheVariants.{Load}
 use Rattle.nr_core.specs.Room.{RoomForStep, RoomOf}
-use Rattle.nr_core.specs.Refusals.{if_not_busy, if_not_holding, if_unreadable}
-use Rattle.nr_core.specs.Refusals.{refusal}
+use Rattle.nr_core.specs.Refusals.{if_not_busy, if_not_holding, if_unreadable, refusal}
 use Rattle.nr_core.specs.Roles.{held}
 use Rattle.nr_core.specs.Slots.{content, slot_room}
 use Rattle.nr_core.specs.States.{retired_at, Arrive, Ask, Depart, Event, FindAgain, Go, Read, Start, State, hold_of}
@@ -57,8 +56,6 @@ own_if caller call reply shows false c = none_of (nat_eq caller c)
 pub told_by_caller : (state : State) (event : Event) (c : ℕ)
     → entries_of (told state event) c ≡ cond (nat_eq (caller_of_event event) c) (told state event) []
 told_by_caller state (Arrive r k) c = own_answering r (model.Find k) find_reply (shown state k) c
-told_by_caller state (Read r i) c = none_of (nat_eq r c)
-told_by_caller state (Depart r) c = none_of (nat_eq r c)
 told_by_caller state (Ask r k) c = own_answering r (model.Ask k) ask_reply (shown state k) c
 told_by_caller state (FindAgain r k) c =
     own_if r (model.Find k) find_reply (shown state k) (names_held (hold_of state r) (found_by state (FindAgain r k))) c
@@ -66,6 +63,7 @@ told_by_caller state (Start call) c =
     own_ending (call_of call) (looked state.shape state.desk call (found_by state (Start call))).1 c
 told_by_caller state Go c =
     own_ending_at state.desk.place (went state.shape state.desk state.desk.place (found_by state Go)).1 c
+told_by_caller state other c = none_of (nat_eq _ c)
 
 -- the word of a read that is not refused is a slot's, and so is that of a departure
 readable_room : (shape : Shape) (index : ℕ) (held : Hold) → if_unreadable index held ≡ None → RoomOf shape held
@@ -96,9 +94,6 @@ held_untouched state log (Arrive r k) is_core ok s i held_so low here =
     absurd (omega arith)
 held_untouched state log (Ask r k) is_core ok s i held_so low here =
     absurd (omega (arith, (at_reader_key state.shape r k _ ok).2))
-held_untouched state log (Read r p) is_core ok s i held_so low here = ap Load here
-held_untouched state log (FindAgain r k) is_core ok s i held_so low here = ap Load here
-held_untouched state log (Start call) is_core ok s i held_so low here = ap Load here
 held_untouched state log (Depart r) is_core ok s i held_so low here =
     absurd (content_apart state.shape s i (slot_in (hold_of state r)) low (sym here))
 held_untouched state log Go is_core ok s i held_so low here = go state.desk.place refl here
@@ -118,6 +113,7 @@ held_untouched state log Go is_core ok s i held_so low here = go state.desk.plac
         let zero_there : held is_core.roles s ≡ 0 = ap (held is_core.roles) same_slot ∙ free in absurd (omega arith))
         (λ no e. absurd (omega arith)) e
     go other is e = ap Load e
+held_untouched state log other is_core ok s i held_so low here = ap Load here
 
 key_inside : {state : State} {log : List Entry} (is_core : IsCoreState state log) {k : ℕ} → k < state.shape.keys
     → k < length state.words
@@ -126,9 +122,6 @@ key_inside is_core near = let wide = is_core.core.wide in omega arith
 -- an operation is on one of the words
 inside_words : (state : State) (log : List Entry) (event : Event) → IsCoreState state log → refusal state event ≡ None
     → target_of (operation state event) < length state.words
-inside_words state log (Arrive r k) is_core ok = key_inside is_core (at_reader_key state.shape r k _ ok).2
-inside_words state log (Ask r k) is_core ok = key_inside is_core (at_reader_key state.shape r k _ ok).2
-inside_words state log (FindAgain r k) is_core ok = key_inside is_core (at_reader_key state.shape r k _ ok).2
 inside_words state log (Start call) is_core ok = key_inside is_core (at_key state.shape (key_of call) _ ok).0
 inside_words state log (Read r index) is_core ok = let wide = is_core.core.wide in
     let at = at_reader state.shape r _ ok in
@@ -149,8 +142,6 @@ inside_words state log Go is_core ok = go state.desk.place refl (place_room stat
     go (Reading call slot got) is room =
         let wide = is_core.core.wide in
         omega (arith, content_inside state.shape slot (length got) room.0 room.1)
-    go (Leaving k) is room = let wide = is_core.core.wide in let near = room.0 in omega arith
-    go (Withdrawing k) is room = let wide = is_core.core.wide in let near = room.0 in omega arith
     go (Searching call rows poll) is room =
         let wide = is_core.core.wide in
         omega (arith, departures_inside state.shape (retired_at state.desk poll).slot room.1)
@@ -160,6 +151,8 @@ inside_words state log Go is_core ok = go state.desk.place refl (place_room stat
         let l : index ≤ 2 * length rows = leb-true index (2 * length rows) yes in
         omega (arith, content_inside state.shape slot index room.2 (omega arith)))
         (λ _. omega arith)
+    go other is room = let wide = is_core.core.wide in let near = room.0 in omega arith
+inside_words state log other is_core ok = key_inside is_core (at_reader_key state.shape _ _ _ ok).2
 
 pub follows : (story : Story) (event : Event) → IsCoreState story.state story.history
     → ((counts : NoSlot) → EndsWithout story.state event counts → IsJustified story event counts) → Follows story event

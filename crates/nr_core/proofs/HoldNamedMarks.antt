@@ -1,10 +1,9 @@
 -- A look-up, and a hold of the slot that a key names: the reader's marks go along.
-use Rattle.std.proofs.Common.{List, [], ap, arith, cond, get_or, inr, inl, refl, suc, sym, ℕ, Bool}
-use Rattle.std.proofs.Common.{⊎_elim, ◌⊎◌, ◌%◌, ◌++◌, ◌+◌, ◌-◌, ◌<◌, ◌^◌, ◌∙◌, ◌∷◌, ◌≡◌}
+use Rattle.std.proofs.Common.{List, [], ap, arith, cond, get_or, inr, inl, refl, suc, sym, ℕ, Bool, ⊎_elim, ◌⊎◌, ◌%◌}
+use Rattle.std.proofs.Common.{◌++◌, ◌+◌, ◌-◌, ◌<◌, ◌^◌, ◌∙◌, ◌∷◌, ◌≡◌}
 use lib.Seq.{set-get_or}
 use Rattle.nr_model.specs.Histories.{Entry}
 use Rattle.nr_words.specs.KeyWords.{is_filled}
-use Rattle.nr_core.proofs.Choices.{by_cases}
 use Rattle.nr_core.proofs.KeyWords.{is_named}
 use Rattle.nr_core.specs.Steps.{HoldsNamed, LooksUp}
 use Rattle.nr_core.specs.declared.operation.Operation.TheVariants.{Add, Load}
@@ -22,6 +21,7 @@ use Rattle.nr_core.proofs.ListPlaces.{some_is}
 use Rattle.nr_core.proofs.MarksSince.{rests}
 use Rattle.nr_core.proofs.ReaderMarks.{contents_counted, contents_loaded, names_behind, reader_step}
 use Rattle.nr_core.proofs.PutNumbers.{QuietEnd, none_end, one_ends}
+use Rattle.nr_core.proofs.Choices.{either}
 use Rattle.nr_model.specs.declared.calls.Call.TheVariants as model
 use Rattle.nr_model.specs.declared.calls.Reply.TheVariants as reply
 
@@ -40,10 +40,7 @@ module _ {A : Type 0} (role : A → Role) (marks : A → Marks) (shape : Shape) 
       (λ k _. ap (λ l. name_number (get_or l k 0)) (set-get_or words key 0)) ends now polls
       (⊎_elim (λ (s : (now.acts ≡ (marks me).acts) × (now.put ≡ (marks me).put)). inl (refl, s.0, s.1)) inr moves)
       (λ j s u desk there writes t on. absurd (cc)) (contents_loaded shape words key) (told, refl) in
-      by_cases
-      (λ (_ : Bool). Remarked role marks shape words callers log id (Load key) me after entries
-      (LooksUpMarks (marks me) key))
-      (is_filled word)
+      either (is_filled word)
       (λ full. finish looked
       (none_end log entries (ans.1 ∙ ap (λ (b : Bool). cond {A = List Entry} b [] (e ∷ [])) full)) refl
       (inl (refl, refl))

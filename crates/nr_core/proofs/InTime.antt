@@ -1,6 +1,6 @@
 -- Each entry is told between its call's first step and its last.
-use Rattle.std.proofs.Common.{[], List, ap, append-nil, append_assoc, arith, cond, fold, inl, inr, length, map}
-use Rattle.std.proofs.Common.{refl, subst, sym, ℕ, ⊎_elim, ◌++◌, ◌+◌, ◌*◌, ◌<◌, ◌∙◌, ◌∷◌, ◌≡◌, ◌⊎◌}
+use Rattle.std.proofs.Common.{[], List, ap, append-nil, append_assoc, arith, cond, fold, inl, inr, length, map, refl}
+use Rattle.std.proofs.Common.{subst, sym, ℕ, ⊎_elim, ◌++◌, ◌+◌, ◌*◌, ◌<◌, ◌∙◌, ◌∷◌, ◌≡◌, ◌⊎◌}
 use Rattle.std.proofs.lemmas.List.Sums.{fold-append}
 use Rattle.std.proofs.lemmas.Bool.{ne_eqb}
 use Rattle.std.specs.Prelude.{None, Option, Some, nat_le, nat_lt}
@@ -25,7 +25,7 @@ use Rattle.nr_core.specs.declared.calls.Step.{Step}
 use Rattle.nr_core.specs.declared.calls.Step.TheVariants.{Ended, Going}
 use Rattle.nr_core.specs.declared.calls.WriterCall.{WriterCall}
 use Rattle.nr_core.specs.declared.places.Place.{Place}
-use Rattle.nr_core.specs.declared.places.Place.TheVariants.{Idle, Leaving, Putting, Reading, Searching, Withdrawing}
+use Rattle.nr_core.specs.declared.places.Place.TheVariants.{Idle, Putting, Reading, Searching}
 use Rattle.nr_core.specs.declared.roles.Desk.{Desk}
 use Rattle.nr_core.specs.declared.shape.Shape.{Shape}
 use Rattle.nr_core.proofs.Guards.{at_reader_key}
@@ -55,14 +55,13 @@ module _ (shape : Shape) (desk : Desk) where
   went_on Idle found = inr refl
   went_on (Reading call slot got) found =
       inl (read_has shape desk (λ call. GoesOn (call ∷ [])) on_now call slot (got ++ found ∷ []))
-  went_on (Leaving key) found = inl (inl refl)
-  went_on (Withdrawing key) found = inl (inl refl)
   went_on (Searching call rows poll) found = inl
       (on_test (GoesOn (call ∷ [])) (same_count found (retired_at desk poll).arrivals) (λ _. inr (refl, refl))
       (λ _. on_test (GoesOn (call ∷ [])) (nat_lt (poll + 1) (length desk.retired)) (λ _. inr (refl, refl))
       (λ _. inl refl)))
   went_on (Putting call rows slot departed index) found = inl
       (on_test (GoesOn (call ∷ [])) (nat_le index (2 * length rows)) (λ _. inr (refl, refl)) (λ _. inl refl))
+  went_on other found = inl (inl refl)
 
 -- an event tells nothing, or an entry of its own caller and call
 abbrev Tells : ℕ → List Call → List Entry → Type 0
@@ -79,16 +78,10 @@ tells_ending call other = inl refl
 
 tells_ending_at : (place : Place) (step : Step) → Tells 0 (map call_of (call_in place)) (ending_at place step)
 tells_ending_at Idle step = inl refl
-tells_ending_at (Reading call slot got) step = tells_ending (call_of call) step
-tells_ending_at (Leaving key) step = tells_ending (model.Evict key) step
-tells_ending_at (Withdrawing key) step = tells_ending (model.Cancel key) step
-tells_ending_at (Searching call rows poll) step = tells_ending (call_of call) step
-tells_ending_at (Putting call rows slot departed index) step = tells_ending (call_of call) step
+tells_ending_at other step = tells_ending _ step
 
 tells_own : (state : State) (event : Event) → TellsOwn state event
 tells_own state (Arrive reader at) = tells_answer reader (model.Find at) find_reply (shown state at)
-tells_own state (Read reader index) = inl refl
-tells_own state (Depart reader) = inl refl
 tells_own state (Ask reader at) = tells_answer reader (model.Ask at) ask_reply (shown state at)
 tells_own state (FindAgain reader at) =
     on_test (Tells reader (model.Find at ∷ []))
@@ -98,6 +91,7 @@ tells_own state (Start call) =
     tells_ending (call_of call) (looked state.shape state.desk call (found_by state (Start call))).1
 tells_own state Go =
     tells_ending_at state.desk.place (went state.shape state.desk state.desk.place (found_by state Go)).1
+tells_own state other = inl refl
 
 -- What an event leaves of the writer's call: the call, and the writer told nothing; or none; or the call that it began.
 abbrev Leaves : Story → Event → Type 0
@@ -107,16 +101,9 @@ Leaves story event =
     ⊎ ((call : WriterCall) × (event ≡ Start call) × (refusal story.state event ≡ None)
     × (under_way (tell story event) ≡ call ∷ []) × (entries_of (told_by story event) 0 ≡ []))
 
-no_ending : (call : Call) (step : Step) → step ≡ Going → ending call step ≡ []
-no_ending call step e = ap (ending call) e
-
 no_ending_at : (place : Place) (step : Step) → step ≡ Going → ending_at place step ≡ []
 no_ending_at Idle step e = refl
-no_ending_at (Reading call slot got) step e = no_ending (call_of call) step e
-no_ending_at (Leaving key) step e = no_ending (model.Evict key) step e
-no_ending_at (Withdrawing key) step e = no_ending (model.Cancel key) step e
-no_ending_at (Searching call rows poll) step e = no_ending (call_of call) step e
-no_ending_at (Putting call rows slot departed index) step e = no_ending (call_of call) step e
+no_ending_at other step e = ap (ending _) e
 
 -- an event that is refused leaves all as it was; of one that isn't it is enough to know what it does
 leaves_if : (story : Story) (event : Event)
@@ -149,22 +136,13 @@ of_reader story event reader =
     (ne_eqb (caller_of_event event) 0 (λ zero. let e : caller_of_event event ≡ 0 = zero in omega arith))
 
 leaves : (story : Story) (event : Event) → Leaves story event
-leaves story (Arrive reader at) =
-    leaves_if story (Arrive reader at)
-    (λ ok. inl (refl, of_reader story (Arrive reader at) (at_reader_key story.state.shape reader at _ ok).0))
 leaves story (Read reader index) = leaves_if story (Read reader index) (λ _. inl (refl, refl))
 leaves story (Depart reader) = leaves_if story (Depart reader) (λ _. inl (refl, refl))
-leaves story (Ask reader at) =
-    leaves_if story (Ask reader at)
-    (λ ok. inl (refl, of_reader story (Ask reader at) (at_reader_key story.state.shape reader at _ ok).0))
-leaves story (FindAgain reader at) =
-    leaves_if story (FindAgain reader at)
-    (λ ok. inl (refl, of_reader story (FindAgain reader at) (at_reader_key story.state.shape reader at _ ok).0))
 leaves story (Start call) = leaves_if story (Start call) (λ _.
     let state = story.state in
     let outcome = looked state.shape state.desk call (found_by state (Start call)) in
     ⊎_elim (λ none. inr (inl none))
-    (λ on. inr (inr (call, refl, on.0, ap (λ entries. entries_of entries 0) (no_ending (call_of call) outcome.1 on.1))))
+    (λ on. inr (inr (call, refl, on.0, ap (λ entries. entries_of entries 0) (ap (ending (call_of call)) on.1))))
     (looked_has state.shape state.desk (λ call. GoesOn (call ∷ [])) (found_by state (Start call))
     (on_now state.shape state.desk (ShownBy state.shape (found_by state (Start call)))) call))
 leaves story Go = leaves_if story Go (λ _.
@@ -175,6 +153,8 @@ leaves story Go = leaves_if story Go (λ _.
     (λ on. inl (on.0, ap (λ entries. entries_of entries 0) (no_ending_at state.desk.place outcome.1 on.1))))
     (λ idle. inr (inl (cc)))
     (went_on state.shape state.desk state.desk.place (found_by state Go)))
+leaves story other =
+    leaves_if story other (λ ok. inl (refl, of_reader story other (at_reader_key story.state.shape _ _ _ ok).0))
 
 -- the story of events that go on
 goes_on : (shape : Shape) (earlier later : List Event)

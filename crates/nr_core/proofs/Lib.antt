@@ -56,10 +56,8 @@ mod Swap
 mod Put
 mod WriterRead
 mod Shown
-mod CoreAfter
 mod StateRoles
 mod ReaderEvents
-mod WriterEvents
 mod Events
 mod Sweeps
 mod Stands

@@ -20,12 +20,11 @@ use Rattle.nr_core.specs.declared.places.Place.TheVariants.{Idle, Searching}
 use Rattle.nr_core.specs.declared.roles.Desk.{Desk}
 use Rattle.nr_core.specs.declared.roles.Grip.{Grip}
 use Rattle.nr_core.specs.declared.roles.Role.{Role}
-use Rattle.nr_core.specs.declared.roles.Role.TheVariants.{Note, Reader, Writer}
+use Rattle.nr_core.specs.declared.roles.Role.TheVariants.{Reader, Writer}
 use Rattle.nr_core.specs.declared.shape.Shape.{Shape}
 use Rattle.nr_core.specs.Puts.{put_count, put_number}
 use Rattle.nr_core.specs.Marks.{Marks, Past, LoggedLoad, gripped, set_in, with_loads}
-use Rattle.nr_core.specs.Marked.{Keeps, Desked, Evolves, HoldNoOthers, KnowsMarks, Marked, Since, Sweeping}
-use Rattle.nr_core.specs.Marked.{lives}
+use Rattle.nr_core.specs.Marked.{Keeps, Desked, Evolves, HoldNoOthers, KnowsMarks, Marked, Since, Sweeping, lives}
 use Rattle.nr_core.proofs.ListPlaces.{at_left, at_maps, set_other}
 
 -- the content words of the slots stay
@@ -149,8 +148,7 @@ module _ {A : Type 0} (role : A → Role) (marks : A → Marks) where
       → KnowsMarks role marks shape words callers log r mine
       → KnowsMarks role marks shape words callers log r (with_loads mine loads)
   knows_loads shape words callers log (Writer desk) mine loads t = desk_loads shape words callers log desk mine loads t
-  knows_loads shape words callers log (Reader c x) mine loads t = t
-  knows_loads shape words callers log Note mine loads t = tt
+  knows_loads shape words callers log other mine loads t = t
 
   pub knows_frame : (shape : Shape) (words words' : List ℕ) (callers callers' : List A) (log log' : List Entry)
       (r : Role) (mine : Marks)
@@ -158,8 +156,7 @@ module _ {A : Type 0} (role : A → Role) (marks : A → Marks) where
       → Desked role marks shape words' callers' log' desk mine)
       → KnowsMarks role marks shape words callers log r mine → KnowsMarks role marks shape words' callers' log' r mine
   knows_frame shape words words' callers callers' log log' (Writer desk) mine writes t = writes desk refl t
-  knows_frame shape words words' callers callers' log log' (Reader c x) mine writes t = t
-  knows_frame shape words words' callers callers' log log' Note mine writes t = tt
+  knows_frame shape words words' callers callers' log log' other mine writes t = t
 
   not_both : (r : Role) (desk : Desk) (c : ℕ) (x : Grip) → r ≡ Writer desk → r ≡ Reader c x → ⊥
   not_both r desk c x writes reads = cc

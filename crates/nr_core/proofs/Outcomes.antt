@@ -89,12 +89,6 @@ module _ (shape : Shape) (desk : Desk) (P : WriterCall → Desk × Step → Type
         absurd (unfilled word (names_one word shows.1.0 shows.1.1).0 empty)
 
     pub looked_has : (call : WriterCall) → P call (looked shape desk call word)
-    looked_has (Find k) =
-        on_test (P (Find k)) (is_filled word) (λ _. has.reads (Find k) (slot_of word) [])
-        (λ _. has.replies (Find k) reply.Hole refl)
-    looked_has (Update k batch) =
-        on_test (P (Update k batch)) (is_filled word) (λ _. has.reads (Update k batch) (slot_of word) [])
-        (λ _. has.replies (Update k batch) reply.Dropped refl)
     looked_has (Replace k rows) =
         let call = Replace k rows in
         on_test (P call) (is_filled word)
@@ -117,15 +111,13 @@ module _ (shape : Shape) (desk : Desk) (P : WriterCall → Desk × Step → Type
         (λ _. on_test (P call) (nat_lt (slot_of word) last_number) (λ _. has.withdraws k)
         (λ _. has.replies call reply.Worn refl))
         (λ _. has.replies call reply.Nothing refl))
+    looked_has call =
+        on_test (P call) (is_filled word) (λ _. has.reads call (slot_of word) []) (λ _. has.replies call _ refl)
 
   -- the last read of a call, which found this set
   pub decided_has : (rows : List Row) → OfOutcomes shape desk (OfSet rows) P → (call : WriterCall)
       → P call (decided shape desk call rows)
   decided_has rows has (Find k) = has.replies (Find k) (reply.Rows rows) refl
-  decided_has rows has (Fill k number new) = has.gives_up (Fill k number new)
-  decided_has rows has (Replace k new) = has.gives_up (Replace k new)
-  decided_has rows has (Evict k) = has.gives_up (Evict k)
-  decided_has rows has (Cancel k) = has.gives_up (Cancel k)
   decided_has rows has (Update k batch) = go (applied (bound_of shape) rows batch) refl
     where
       go : (a : Result (List Row) ApplyFault) → applied (bound_of shape) rows batch ≡ a
@@ -134,6 +126,7 @@ module _ (shape : Shape) (desk : Desk) (P : WriterCall → Desk × Step → Type
           settled_has (OfSet rows) has (Update k batch) new
           (λ state shows. ap (reply_at (bound_of shape) (call_of (Update k batch))) shows.1 ∙ ap applied_reply is)
       go (Err fault) is = has.replies (Update k batch) (applied_reply (Err fault)) (fault_quiet fault)
+  decided_has rows has other = has.gives_up other
 
   -- any read, where the words may spell anything
   pub read_has : ((shown : KeyState → Type 0) → OfOutcomes shape desk shown P) → (call : WriterCall) (slot : ℕ)

@@ -1,7 +1,6 @@
 -- What is known of the retired slots as their list changes: how often each is there, and that the first were reaped.
 use Rattle.std.proofs.Common.{List, [], Bool, true, false, ap, arith, get_or, length, refl, remove, set, subst, suc}
-use Rattle.std.proofs.Common.{zero, ℕ, ◌++◌, ◌+◌, ◌-◌}
-use Rattle.std.proofs.Common.{◌<◌, ◌∙◌, ◌∷◌, ◌≡◌, ◌≤◌, slice_index, slice_index_or}
+use Rattle.std.proofs.Common.{zero, ℕ, ◌++◌, ◌+◌, ◌-◌, ◌<◌, ◌∙◌, ◌∷◌, ◌≡◌, ◌≤◌, slice_index, slice_index_or}
 use mathlib.Core.Logic.{dite}
 use native.Mathlib.Decide.{ℕ_discrete, dec_lt}
 use Rattle.std.proofs.lemmas.List.{get_or-set_other, get_or-set_same, length-append}
@@ -9,7 +8,7 @@ use Rattle.std.proofs.lemmas.List.Edits.{get_or-remove_above, get_or-remove_belo
 use Rattle.std.proofs.Math.ListN.{get_or-append}
 use Rattle.nr_core.specs.declared.places.Retired.{Retired}
 use Rattle.nr_core.specs.Roles.{retirements}
-use Rattle.nr_core.specs.SlotLists.{AreReaped, CountsRetirements}
+use Rattle.nr_core.specs.SlotLists.{AreReaped, CountsRetirements, CountsMore, CountsFewer}
 use Rattle.nr_core.specs.States.{no_retired}
 use Rattle.nr_core.specs.Sums.{only}
 use Rattle.nr_core.proofs.Sums.{only-same, total-append}
@@ -31,19 +30,9 @@ retired_there [] place inside = absurd (omega arith)
 retired_there (first ∷ others) zero inside = omega (arith, only-same first.slot)
 retired_there (first ∷ others) (suc place) inside = omega (arith, retired_there others place (omega arith))
 
--- counts that are more by one slot
-abbrev pub More : ℕ → List ℕ → List ℕ → Type 0
-More slot old new = (other : ℕ) → other < length old → slice_index new other < 2
-    → (slice_index old other < 2) × (only other slot + slice_index old other ≤ slice_index new other)
-
--- or less
-abbrev pub Fewer : ℕ → List ℕ → List ℕ → Type 0
-Fewer slot old new = (other : ℕ) → other < length old → slice_index new other < 2
-    → (slice_index old other < 2) × (slice_index old other ≤ only other slot + slice_index new other)
-
 module _ (slots : ℕ) (retired after : List Retired) (old new : List ℕ) (slot : ℕ) (same : length new ≡ length old)
     (known : CountsRetirements slots retired old) where
-  pub counts_more : More slot old new
+  pub counts_more : CountsMore slot old new
       → ((other : ℕ) → retirements other after ≡ only other slot + retirements other retired)
       → CountsRetirements slots after new
   counts_more more adds = (
@@ -53,7 +42,7 @@ module _ (slots : ℕ) (retired after : List Retired) (old new : List ℕ) (slot
         omega (arith, known.1 other inside told.0, adds other),
   )
 
-  pub counts_fewer : Fewer slot old new
+  pub counts_fewer : CountsFewer slot old new
       → ((other : ℕ) → retirements other after + only other slot ≡ retirements other retired)
       → CountsRetirements slots after new
   counts_fewer fewer takes = (
@@ -132,7 +121,7 @@ reaped_none retired reaped = (omega arith, λ place first. absurd (omega arith))
 -- the slot at a place was taken
 pub counts_taken : (slots : ℕ) (retired after : List Retired) (old new : List ℕ) (place : ℕ) (entry : Retired)
     → place < length retired → entry ≡ get_or retired place entry → after ≡ remove retired place
-    → length new ≡ length old → CountsRetirements slots retired old → Fewer entry.slot old new
+    → length new ≡ length old → CountsRetirements slots retired old → CountsFewer entry.slot old new
     → CountsRetirements slots after new
 counts_taken slots retired after old new place entry inside here gone same known fewer =
     counts_fewer slots retired after old new entry.slot same known fewer
@@ -142,7 +131,7 @@ counts_taken slots retired after old new place entry inside here gone same known
 -- a slot was put behind the others, or before them
 pub counts_put : (slots : ℕ) (retired after : List Retired) (old new : List ℕ) (entry : Retired)
     → after ≡ retired ++ entry ∷ [] → length new ≡ length old → CountsRetirements slots retired old
-    → More entry.slot old new → CountsRetirements slots after new
+    → CountsMore entry.slot old new → CountsRetirements slots after new
 counts_put slots retired after old new entry put same known more =
     counts_more slots retired after old new entry.slot same known more
     (λ other. let moved = ap (retirements other) put in omega (arith, retired_last retired entry other))
@@ -150,7 +139,7 @@ counts_put slots retired after old new entry put same known more =
 -- the first was taken
 pub counts_popped : (slots : ℕ) (retired after : List Retired) (old new : List ℕ) (entry : Retired)
     → retired ≡ entry ∷ after → length new ≡ length old → CountsRetirements slots retired old
-    → Fewer entry.slot old new → CountsRetirements slots after new
+    → CountsFewer entry.slot old new → CountsRetirements slots after new
 counts_popped slots retired after old new entry popped same known fewer =
     counts_fewer slots retired after old new entry.slot same known fewer
     (λ other. let moved = ap (retirements other) popped in omega arith)

@@ -1,7 +1,7 @@
 -- A poll: where it finds its slot held it notes a reader that holds it, which no poll of this call has noted. So at
 -- most as many polls as there are readers find their slots held.
-use Rattle.std.proofs.Common.{[], inl, List, ap, append-nil, arith, cond, false, get_or, length, length-append, map}
-use Rattle.std.proofs.Common.{refl, subst, sym, ℕ, ⊎_elim, ◌++◌, ◌+◌, ◌<◌, ◌∙◌, ◌∷◌, ◌≡◌, ◌≤◌, true}
+use Rattle.std.proofs.Common.{[], inl, List, ap, append-nil, arith, false, get_or, length, length-append, map, refl}
+use Rattle.std.proofs.Common.{subst, sym, ℕ, ⊎_elim, ◌++◌, ◌+◌, ◌<◌, ◌∙◌, ◌∷◌, ◌≡◌, ◌≤◌, true}
 use Rattle.std.specs.Prelude.{Some, nat_lt}
 use lib.ListN.{get_elem?}
 use mathlib.Core.Logic.{dite}
@@ -10,7 +10,6 @@ use native.Mathlib.Decide.{ℕ_discrete}
 use Rattle.nr_model.specs.Histories.{Entry}
 use Rattle.nr_model.specs.declared.rows.Row.{Row}
 use Rattle.nr_words.specs.KeyWords.{same_count}
-use Rattle.nr_core.proofs.Choices.{by_cases}
 use Rattle.nr_core.proofs.Sums.{got_at, only-is, only-le, only-other, only-same, some_term, term_le, terms_le}
 use Rattle.nr_core.proofs.Sums.{total-append, total-remove}
 use Rattle.nr_core.specs.Core.{Core}
@@ -20,9 +19,8 @@ use Rattle.nr_core.specs.Slots.{departures}
 use Rattle.nr_core.specs.States.{no_retired, retired_at}
 use Rattle.nr_core.specs.Story.{call_of, ending}
 use Rattle.nr_core.specs.Sums.{only, total}
-use Rattle.nr_core.specs.Writer.{moved_to, no_slot, polls_on, taking_retired}
+use Rattle.nr_core.specs.Writer.{moved_to, taking_retired, polled}
 use Rattle.nr_core.specs.declared.calls.Step.{Step}
-use Rattle.nr_core.specs.declared.calls.Step.TheVariants.{Going}
 use Rattle.nr_core.specs.declared.calls.WriterCall.{WriterCall}
 use Rattle.nr_core.specs.declared.places.Place.TheVariants.{Idle, Searching}
 use Rattle.nr_core.specs.declared.places.Retired.{Retired}
@@ -39,10 +37,11 @@ use Rattle.nr_core.proofs.Different.{few_of}
 use Rattle.nr_core.proofs.ListPlaces.{at_last, at_maps, before, inside, some_is}
 use Rattle.nr_core.proofs.MarksSince.{rests}
 use Rattle.nr_core.proofs.DeskMarks.{Went, desk_of, load_step, no_room_left}
-use Rattle.nr_core.proofs.Holders.{ReaderThere, alone_more, holder_of, in_range, noted, present_more}
-use Rattle.nr_core.proofs.Holders.{since_itself, since_more}
+use Rattle.nr_core.proofs.Holders.{ReaderThere, alone_more, holder_of, in_range, noted, present_more, since_itself}
+use Rattle.nr_core.proofs.Holders.{since_more}
 use Rattle.nr_core.proofs.Frames.{stands_at}
 use Rattle.nr_core.proofs.PutNumbers.{none_end}
+use Rattle.nr_core.proofs.Choices.{on_test}
 
 module _ {A : Type 0} (role : A → Role) (marks : A → Marks) where
   module _ (shape : Shape) (words : List ℕ) (callers : List A) (log : List Entry)
@@ -170,27 +169,17 @@ module _ {A : Type 0} (role : A → Role) (marks : A → Marks) where
                 }) few),
           ),
         ) in
-        by_cases (λ b. same_count word entry.arrivals ≡ b → after ≡ Writer
-        (cond {A = Desk × Step} b (taking_retired desk call rows poll word, Going)
-        (polls_on shape desk call rows poll)).0
-        → entries ≡ ending (call_of call) (cond {A = Desk × Step} b (taking_retired desk call rows poll word, Going)
-        (polls_on shape desk call rows poll)).1 → Goal)
-        (same_count word entry.arrivals)
-        (λ _ hit is none. finish (taking_retired desk call rows poll word) (marks me).polls
+        let Ends : Desk × Step → Type 0 = λ o. after ≡ Writer o.0 → entries ≡ ending (call_of call) o.1 → Goal in
+        let ended_so : Ends (polled shape desk call rows poll word) = on_test Ends (same_count word entry.arrivals)
+        (λ hit is none. finish (taking_retired desk call rows poll word) (marks me).polls
         (with_poll (marks me) slot true).loads is none
         (λ s. let gone = total-remove (λ (y : Retired). only s y.slot) desk.retired poll entry here in
         omega arith) own.noted (λ n e there'. inl there') tt (
           refl,
           rw hit refl,
         ))
-        (λ _ miss. by_cases
-        (λ b. after ≡ Writer (cond {A = Desk × Step} b (moved_to desk (Searching call rows (poll + 1)), Going)
-        (moved_to desk Idle, no_slot shape desk)).0 → entries ≡ ending (call_of call)
-        (cond {A = Desk × Step} b (moved_to desk (Searching call rows (poll + 1)), Going)
-        (moved_to desk Idle, no_slot shape desk)).1
-        → Goal)
-        (nat_lt (poll + 1) (length desk.retired))
+        (λ miss. on_test Ends (nat_lt (poll + 1) (length desk.retired))
         (λ _ is none. misses miss (moved_to desk (Searching call rows (poll + 1))) refl (λ polls t. (t.other, λ _. t))
         is none)
-        (λ _ is none. misses miss (moved_to desk Idle) refl (λ polls t. t.other) is none))
-        refl ans.0 ans.1
+        (λ _ is none. misses miss (moved_to desk Idle) refl (λ polls t. t.other) is none)) in
+        ended_so ans.0 ans.1

@@ -166,11 +166,7 @@ hold_prop shape (hold.On slot (Some size)) = hlevel props
 
 place_prop : (state : State) (place : Place) → IsProp (RoomForStep state place)
 place_prop state Idle = hlevel props
-place_prop state (Reading call slot got) = hlevel props
-place_prop state (Leaving k) = hlevel props
-place_prop state (Withdrawing k) = hlevel props
-place_prop state (Searching call rows poll) = hlevel props
-place_prop state (Putting call rows slot departed index) = hlevel props
+place_prop state other = hlevel props
 
 room_prop : (state : State) → IsProp (HasRoom state)
 room_prop state = hlevel (props, hold_prop, place_prop)

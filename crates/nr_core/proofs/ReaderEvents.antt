@@ -41,7 +41,7 @@ use Rattle.nr_model.specs.declared.states.KeyState.{KeyState}
 use Rattle.nr_core.specs.declared.roles.Role.TheVariants.{Reader}
 use lib.Seq.{set-get_or}
 use Rattle.nr_core.specs.declared.operation.Operation.{Operation}
-use Rattle.nr_core.proofs.CoreAfter.{core_after}
+use Rattle.nr_core.proofs.Stepping.{core_after}
 use Rattle.nr_core.specs.declared.places.Hold.TheVariants as hold
 use Rattle.nr_model.specs.declared.calls.Call.TheVariants as model
 use Rattle.nr_core.specs.declared.calls.Refusal.TheVariants as refuse

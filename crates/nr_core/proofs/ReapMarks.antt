@@ -8,7 +8,6 @@ use lib.Seq.{set-get_or}
 use mathlib.Core.Option.{some}
 use Rattle.nr_model.specs.Histories.{Entry}
 use Rattle.nr_words.specs.KeyWords.{same_count}
-use Rattle.nr_core.proofs.Choices.{by_cases}
 use Rattle.nr_core.proofs.KeyWords.{is_named}
 use Rattle.nr_core.proofs.Sums.{only-same, term_le}
 use Rattle.nr_core.specs.Roles.{holds}
@@ -34,6 +33,7 @@ use Rattle.nr_core.proofs.Holders.{alone_more, holder_of, noted, present_more, s
 use Rattle.nr_core.proofs.SwapMarks.{grips_it}
 use Rattle.nr_core.proofs.Poll.{nobody_holds}
 use Rattle.nr_core.proofs.PutNumbers.{none_end}
+use Rattle.nr_core.proofs.Choices.{either}
 
 module _ {A : Type 0} (role : A → Role) (marks : A → Marks) where
   -- a slot's set is reaped that no key names and no reader holds
@@ -88,8 +88,8 @@ module _ {A : Type 0} (role : A → Role) (marks : A → Marks) where
         → Desked role marks shape words' callers (log ++ entries) desk now
         → tells word after (log ++ entries) now [] → Goal = λ now noted desked told. writer_step core m at
         was (ans.0 ∙ was) now [] (no_places (Since role marks callers)) noted desked told in
-        by_cases (λ b. same_count word entry.arrivals ≡ b → Goal) (same_count word entry.arrivals)
-        (λ _ hit.
+        either (same_count word entry.arrivals)
+        (λ hit.
         let nobody = nobody_holds core slot word entry.arrivals count hit in
         finish (with_reaped (with_poll (marks me) slot true) slot) (λ n e there'. inl there')
         (desk_reaped shape words' callers (log ++ entries) desk (with_poll (marks me) slot true) slot
@@ -104,7 +104,7 @@ module _ {A : Type 0} (role : A → Role) (marks : A → Marks) where
           refl,
           rw hit refl,
         ))
-        (λ _ miss.
+        (λ miss.
         let held = holder_of slot word entry.arrivals count miss in
         let reader = held.0 in
         let polls = (marks me).polls ++ noted reader ∷ [] in
@@ -116,4 +116,3 @@ module _ {A : Type 0} (role : A → Role) (marks : A → Marks) where
           rw miss (tells_missed (marks me) desk m reader slot held.1 others
               (omega arith)),
         ))
-        refl

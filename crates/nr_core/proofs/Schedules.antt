@@ -1,6 +1,6 @@
 -- The laws over all lists of events: what stands between any two steps, and the bound on slots.
 -- Each kind of step keeps the core state (Arrive, Ask, Read, Depart, Look, Go), so each event does (ReaderEvents,
--- WriterEvents, Events), from the opening on (Opening).
+-- Events), from the opening on (Opening).
 -- Stands and Follows read the law off a core state; Sweeps keeps what the polls of a call tell, and Justified uses both
 -- where a call ends with no slot.
 use Rattle.std.proofs.Common.{List, [], ap, arith, length, refl, subst, sym, ◌+◌, ◌<◌, ◌∙◌, ◌∷◌, ◌≡◌, ◌≤◌}

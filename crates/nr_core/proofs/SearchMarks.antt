@@ -1,13 +1,12 @@
 -- A search that polls in any order: it notes a reader for each slot that it finds held, as a reap does, and may be
 -- given up.
-use Rattle.std.proofs.Common.{[], inl, List, ap, arith, cond, get_or, length, map, refl, subst, sym, ℕ, ⊎_elim, ◌++◌}
-use Rattle.std.proofs.Common.{◌<◌, ◌∙◌, ◌∷◌, ◌≡◌, ◌⊎◌, true, false}
+use Rattle.std.proofs.Common.{[], inl, List, ap, arith, get_or, length, map, refl, subst, sym, ℕ, ⊎_elim, ◌++◌, ◌<◌}
+use Rattle.std.proofs.Common.{◌∙◌, ◌∷◌, ◌≡◌, ◌⊎◌, true, false}
 use lib.ListN.{get_elem?}
 use mathlib.Core.Option.{some, some-ne-none}
 use Rattle.nr_model.specs.Histories.{Entry}
 use Rattle.nr_model.specs.declared.rows.Row.{Row}
 use Rattle.nr_words.specs.KeyWords.{same_count}
-use Rattle.nr_core.proofs.Choices.{by_cases}
 use Rattle.nr_core.proofs.Sums.{got_at, only-same, term_le, total-remove}
 use Rattle.nr_core.specs.Core.{Core}
 use Rattle.nr_core.specs.Steps.{GivesUp, LoadsWord, Tries}
@@ -33,6 +32,7 @@ use Rattle.nr_core.proofs.DeskMarks.{desk_of, load_step}
 use Rattle.nr_core.proofs.Holders.{ReaderThere, alone_more, holder_of, noted, present_more, since_more, tells_missed}
 use Rattle.nr_core.proofs.LookMarks.{no_notes, none_hold}
 use Rattle.nr_core.proofs.PutNumbers.{none_end}
+use Rattle.nr_core.proofs.Choices.{on_test}
 
 module _ {A : Type 0} (role : A → Role) (marks : A → Marks) where
   module _ (shape : Shape) (id : ℕ) (me : A) (known : List Past) (desk : Desk) (call : WriterCall) (rows : List Row)
@@ -83,13 +83,13 @@ module _ {A : Type 0} (role : A → Role) (marks : A → Marks) where
         let tells = TriesMarks shape (marks me) desk poll in let taken_it = taking_retired desk call rows poll word in
         let Goal : Type 0 = Remarked role marks shape words callers log id (Load i) me after entries tells in
         let others = others_so callers own.sweep in
-        by_cases (λ b. same_count word entry.arrivals ≡ b → after ≡ Writer (cond {A = Desk} b taken_it desk) → Goal)
-        (same_count word entry.arrivals) (λ _ hit is. load_step entries i core m at was is (none_end log entries ans.1)
+        on_test (λ (d : Desk). after ≡ Writer d → Goal) (same_count word entry.arrivals)
+        (λ hit is. load_step entries i core m at was is (none_end log entries ans.1)
         (λ s. let gone = total-remove (λ (y : Retired). only s y.slot) desk.retired poll entry here in omega arith)
         (λ s _. subst (Untouched s) (sym is_at) tt) (marks me).polls (with_poll (marks me) slot true).loads own.noted
         (λ n e there'. inl there') tt
         (refl, subst (λ b. TryTells b shape slot (marks me) (with_poll (marks me) slot true)) (sym hit) refl))
-        (λ _ miss is.
+        (λ miss is.
         let held = holder_of slot word entry.arrivals count miss in
         let reader = held.0 in
         let polls = (marks me).polls ++ noted reader ∷ [] in
@@ -101,52 +101,38 @@ module _ {A : Type 0} (role : A → Role) (marks : A → Marks) where
           rw miss (tells_missed (marks me) desk m reader slot held.1 others
               (omega arith)),
         ))
-        refl ans.0
+        ans.0
 
     -- a scan goes on with the notes that there are, or begins anew with none
     abbrev pub Begins : List Past → Type 0
     Begins base = (base ≡ []) ⊎ (base ≡ (marks me).polls)
 
-    begins_since : (callers : List A) (base : List Past) → Begins base → AllSince role marks callers (marks me).polls
-        → AllSince role marks callers base
-    begins_since callers base begins since =
-        ⊎_elim (λ (e : base ≡ []). subst (AllSince role marks callers) (sym e) (no_places (Since role marks callers)))
-        (λ (e : base ≡ (marks me).polls). subst (AllSince role marks callers) (sym e) since) begins
+    -- notes that it may have, each of which tells a reader as it is, or was there before
+    abbrev Fits : List A → List Past → Type 0
+    Fits callers notes =
+        AllSince role marks callers notes × HoldNoOthers role marks callers desk notes
+        × NotesPresent role marks callers (marks me).polls notes
 
-    begins_alone : (callers : List A) (base : List Past) → Begins base
-        → HoldNoOthers role marks callers desk (marks me).polls → HoldNoOthers role marks callers desk base
-    begins_alone callers base begins others =
-        ⊎_elim
-        (λ (e : base ≡ []). subst (HoldNoOthers role marks callers desk) (sym e)
-        (none_hold role marks callers desk))
-        (λ (e : base ≡ (marks me).polls). subst (HoldNoOthers role marks callers desk) (sym e) others) begins
-
-    begins_there : (base : List Past) → Begins base → (n : ℕ) (e : Past) → get_elem? base n ≡ some e
-        → get_elem? (marks me).polls n ≡ some e
-    begins_there base begins n e there =
-        ⊎_elim
-        (λ (z : base ≡ []). absurd (some-ne-none e (sym (ap (λ (l : List Past). get_elem? l n) (sym z) ∙ there))))
-        (λ (z : base ≡ (marks me).polls). ap (λ (l : List Past). get_elem? l n) (sym z) ∙ there) begins
-
-    abbrev OwnNotes : List A → Type 0
-    OwnNotes callers =
-        AllSince role marks callers (marks me).polls × HoldNoOthers role marks callers desk (marks me).polls
-
-    own_so : (words : List ℕ) (callers : List A) (log : List Entry) → Marked role marks shape words callers log
-        → get_elem? callers id ≡ some me → OwnNotes callers
-    own_so words callers log m at =
+    base_fits : {words : List ℕ} {callers : List A} {log : List Entry} → Marked role marks shape words callers log
+        → get_elem? callers id ≡ some me → (base : List Past) → Begins base → Fits callers base
+    base_fits {callers = callers} m at base begins =
         let own = desk_of id m at was in
-        (own.noted, others_so callers own.sweep)
+        ⊎_elim
+        (λ (e : base ≡ []). rw e (
+          no_places (Since role marks callers),
+          none_hold role marks callers desk,
+          λ n note there. absurd (some-ne-none note (sym there)),
+        ))
+        (λ (e : base ≡ (marks me).polls).
+        rw e (own.noted, others_so callers own.sweep, λ n note there. inl there)) begins
 
     pub scans_marked : (base : List Past) → Begins base → (loads : List LoggedLoad) (place : ℕ)
         → CanMark role marks shape id me known (Load place) (LoadsWord (role me))
         (λ word after log now news. (now ≡ with_scan (marks me) base loads) × (news ≡ []))
     scans_marked base begins loads place words callers log core m once at sinces after entries ans =
-        let own = own_so words callers log m at in
+        let fits = base_fits m at base begins in
         notes_now place (λ word after log now news. (now ≡ with_scan (marks me) base loads) × (news ≡ [])) words
-        callers log core m at after entries (ans.0 ∙ was) ans.1 base loads
-        (begins_since callers base begins own.0) (λ n e there'. inl (begins_there base begins n e there'))
-        (begins_alone callers base begins own.1) (refl, refl)
+        callers log core m at after entries (ans.0 ∙ was) ans.1 base loads fits.0 fits.2 fits.1 (refl, refl)
 
     -- and notes a reader as it is
     pub notes_marked : (base : List Past) → Begins base
@@ -161,15 +147,14 @@ module _ {A : Type 0} (role : A → Role) (marks : A → Marks) where
         × (news ≡ []))
     notes_marked base begins loads place words callers log core m once at after entries ans other reader who grip here
         reads =
-        let own = own_so words callers log m at in
+        let fits = base_fits m at base begins in
         let one : ReaderThere role marks callers
         = record { place = other; who = who; reader = reader; grip = grip; there = here; is = reads } in
         let polls = base ++ noted one ∷ [] in
         notes_now place (λ word after log now news. (now ≡ with_scan (marks me) polls loads) × (news ≡ [])) words
         callers log core m at after entries (ans.0 ∙ was) ans.1 polls loads
-        (since_more one base (begins_since callers base begins own.0)) (present_more one base (marks me).polls
-        (λ n e there'. inl (begins_there base begins n e there')))
-        (alone_more one base once desk (begins_alone callers base begins own.1)) (refl, refl)
+        (since_more one base fits.0) (present_more one base (marks me).polls fits.2)
+        (alone_more one base once desk fits.1) (refl, refl)
 
     -- or is given up
     pub gives_up_marked : (place : ℕ)

@@ -2,7 +2,7 @@
 -- hold.
 use Rattle.std.proofs.Common.{Bool, List, [], ap, append-nil, arith, cond, eq-eqb, get_or, get_or-set_other, sym, ◌-◌}
 use Rattle.std.proofs.Common.{get_or-set_same, length, length-set, ne_eqb, refl, set, subst, suc, ℕ, ⊎_elim, ◌++◌, ◌+◌}
-use Rattle.std.proofs.Common.{◌<◌, ◌∙◌, ◌∷◌, ◌≡◌, ◌≢◌, ◌≤◌}
+use Rattle.std.proofs.Common.{◌<◌, ◌∙◌, ◌∷◌, ◌≡◌, ◌≢◌, ◌≤◌, nat_eq}
 use Rattle.std.specs.Prelude.{None, Some}
 use lib.ListN.{get_elem?}
 use mathlib.Core.Logic.{dite}
@@ -18,13 +18,9 @@ use Rattle.nr_core.specs.Accounts.{on}
 use Rattle.nr_core.specs.Core.{Core}
 use Rattle.nr_core.specs.Roles.{grips, held, holds, keeps}
 use Rattle.nr_core.specs.States.{State}
-use Rattle.nr_core.specs.Story.{call_of, ending, ending_at, entry}
+use Rattle.nr_core.specs.Story.{entry}
 use Rattle.nr_core.specs.Sums.{total}
-use Rattle.nr_core.specs.declared.calls.Step.{Step}
-use Rattle.nr_core.specs.declared.calls.Step.TheVariants.{Ended}
 use Rattle.nr_core.specs.declared.places.Hold.{Hold}
-use Rattle.nr_core.specs.declared.places.Place.{Place}
-use Rattle.nr_core.specs.declared.places.Place.TheVariants.{Idle, Leaving, Putting, Reading, Searching, Withdrawing}
 use Rattle.nr_core.specs.declared.roles.Desk.{Desk}
 use Rattle.nr_core.specs.declared.roles.Grip.{Grip}
 use Rattle.nr_core.specs.declared.roles.Grip.TheVariants.{Nothing, On}
@@ -135,9 +131,9 @@ found_set roles log es i x all quiet own j s rows b e =
     (at_set roles (suc i) (suc j) (Reader (suc i) x) (Reader (suc j) (On s rows b)) e)
 
 pub found_writer : (roles : List Role) (log es : List Entry) (desk : Desk) → AllFound roles log
-    → ((j : ℕ) → entries_of es (suc j) ≡ []) → AllFound (set roles 0 (Writer desk)) (log ++ es)
-found_writer roles log es desk all quiet j s rows b e =
-    found_quiet log es (suc j) rows (quiet j)
+    → ((c : ℕ) → entries_of es c ≡ cond (nat_eq 0 c) es []) → AllFound (set roles 0 (Writer desk)) (log ++ es)
+found_writer roles log es desk all own j s rows b e =
+    found_quiet log es (suc j) rows (own (suc j) ∙ ap (λ b. cond b es []) (ne_eqb 0 (suc j) (λ z. omega arith)))
     (⊎_elim (λ (t : (suc j ≡ 0) × (Writer desk ≡ Reader (suc j) (On s rows b))). absurd (omega (arith, t.0)))
     (λ t. all j s rows b t.1) (at_set roles 0 (suc j) (Writer desk) (Reader (suc j) (On s rows b)) e))
 
@@ -188,18 +184,6 @@ found_now log c k rows = let e = entry c (model.Find k) (reply.Rows rows) in (
   entries_of log c,
   cc (of-append c log (e ∷ []), one_same c c (model.Find k) (reply.Rows rows) refl),
 )
-
-pub ending_other : (call : Call) (state : Step) (j : ℕ) → entries_of (ending call state) (suc j) ≡ []
-ending_other call (Ended (writer.Reply y)) j = one_other 0 (suc j) call y (λ z. omega arith)
-ending_other call other j = refl
-
-pub ending_at_other : (p : Place) (state : Step) (j : ℕ) → entries_of (ending_at p state) (suc j) ≡ []
-ending_at_other Idle s j = refl
-ending_at_other (Reading call t got) s j = ending_other (call_of call) s j
-ending_at_other (Leaving k) s j = ending_other (model.Evict k) s j
-ending_at_other (Withdrawing k) s j = ending_other (model.Cancel k) s j
-ending_at_other (Searching call rows p) s j = ending_other (call_of call) s j
-ending_at_other (Putting call rows t departed i) s j = ending_other (call_of call) s j
 
 weights : (s : ℕ) (rest : List Role) (l : List Hold) (i : ℕ) → length rest ≡ length l
     → ((j : ℕ) → j < length l

@@ -1,5 +1,5 @@
 -- A step of a caller, from the core state after it and what it tells.
-use Rattle.std.proofs.Common.{List, [], cond, get_or, nat_eq, refl, set, ℕ, ◌++◌, ◌∷◌, ◌≡◌, append-nil}
+use Rattle.std.proofs.Common.{List, [], cond, get_or, nat_eq, refl, set, ℕ, ◌++◌, ◌∷◌, ◌≡◌, append-nil, subst}
 use Rattle.nr_model.specs.Histories.{Entry, entries_of}
 use Rattle.nr_model.specs.declared.calls.Call.{Call}
 use Rattle.nr_model.specs.declared.calls.Reply.{Reply}
@@ -83,3 +83,12 @@ module _ {shape : Shape} {words : List ℕ} {roles : List Role} {log : List Entr
     own = own;
     told = told;
   }
+
+-- the core state after a step, by the role and the entries that it tells
+pub core_after : {shape : Shape} {words : List ℕ} {roles : List Role} {log : List Entry} {id : ℕ} {role : Role}
+    {operation : Operation} {tells : Telling} (step : Stepped shape words roles log id role operation tells)
+    {after : Role} {entries : List Entry} → step.after ≡ after → step.entries ≡ entries
+    → CoreWith shape words roles id operation after (log ++ entries)
+core_after {shape} {words} {roles} {log} {id} {role} {operation} step same_role same_entries =
+    subst (λ (p : Role × List Entry). CoreWith shape words roles id operation p.0 (log ++ p.1))
+    (λ j. (same_role j, same_entries j)) step.core

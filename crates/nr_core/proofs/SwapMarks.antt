@@ -15,8 +15,8 @@ use Rattle.nr_words.specs.SetWords.{encode}
 use Rattle.nr_core.proofs.Counting.{retired_once}
 use Rattle.nr_core.proofs.KeyWords.{is_named, name_low, naming_is}
 use Rattle.nr_core.proofs.Settle.{key_same}
-use Rattle.nr_core.proofs.Sums.{below-change, below-same, only-other, only-same, only-suc, only-zero}
-use Rattle.nr_core.proofs.Sums.{term_le, total-append}
+use Rattle.nr_core.proofs.Sums.{below-change, below-same, only-other, only-same, only-suc, only-zero, term_le}
+use Rattle.nr_core.proofs.Sums.{total-append}
 use Rattle.nr_core.specs.Core.{ShowsState}
 use Rattle.nr_core.specs.Roles.{grips, held, holds, taken}
 use Rattle.nr_core.specs.declared.operation.Operation.TheVariants.{Store, Swap}
@@ -42,7 +42,7 @@ use Rattle.nr_core.proofs.ListPlaces.{at_maps, no_places, some_is}
 use Rattle.nr_core.proofs.PutNumbers.{count_more, put_more, quiet_count, quiet_number, QuietEnd, nothing_ends}
 use Rattle.nr_core.proofs.ReaderMarks.{names_behind, names_kept, contents_behind}
 use Rattle.nr_core.proofs.LookMarks.{none_hold}
-use Rattle.nr_core.proofs.DeskMarks.{desk_keep, desk_of, desk_stay, writer_step}
+use Rattle.nr_core.proofs.DeskMarks.{desk_keep, desk_of, desk_stay, writer_step, Went}
 use Rattle.nr_core.proofs.MarksSince.{SameContents}
 use Rattle.nr_core.proofs.Frames.{spells_more, stands_at}
 use Rattle.nr_core.proofs.Swap.{unnamed_sum}
@@ -252,9 +252,7 @@ module _ {A : Type 0} (role : A → Role) (marks : A → Marks) where
 
     pub unpublishes_marked : (k : ℕ) → desk.place ≡ Leaving k → role me ≡ Writer desk
         → CanMark role marks shape id me known (Swap k (hole_word (number_at desk k) false))
-        (λ word after entries. (after ≡ Writer (swapped desk word))
-        × (entries ≡ entry 0 (model.Evict k) reply.Evicted ∷ []))
-        (UnpublishesMarks (marks me) k)
+        (Went shape desk (Leaving k)) (UnpublishesMarks (marks me) k)
     unpublishes_marked k is_at was words callers log core m once there since after entries ans =
         let word : ℕ = get_or words k 0 in
         let x : ℕ = hole_word (number_at desk k) false in
@@ -289,9 +287,7 @@ module _ {A : Type 0} (role : A → Role) (marks : A → Marks) where
     -- an asked key named no slot, and names none after
     pub withdraws_marked : (k : ℕ) → desk.place ≡ Withdrawing k → role me ≡ Writer desk
         → CanMark role marks shape id me known (Swap k (hole_word (number_at desk k + 1) false))
-        (λ word after entries. (after ≡ Writer (withdrawn desk k))
-        × (entries ≡ entry 0 (model.Cancel k) reply.Cancelled ∷ []))
-        (KeepsMarks (marks me))
+        (Went shape desk (Withdrawing k)) (KeepsMarks (marks me))
     withdraws_marked k is_at was words callers log core m once there since after entries ans =
         let x : ℕ = hole_word (number_at desk k + 1) false in
         let words' = set words k x in

@@ -3,8 +3,8 @@
 -- a named slot, and no slot is retired during a sweep (held_swept). One that holds the slot that is polled holds no
 -- other, so each poll that finds its slot held leaves one such reader more (sweep_more). Every event keeps this
 -- (swept_event).
-use Rattle.std.proofs.Common.{[], List, ap, arith, cond, drop, get_or, length, map, refl, set, subst, suc, take}
-use Rattle.std.proofs.Common.{zero, ℕ, ◌%◌, ◌*◌, ◌++◌, ◌+◌, ◌-◌, ◌/◌, ◌<◌, ◌^◌, ◌∙◌, ◌∷◌, ◌≡◌, ◌≢◌, ◌≤◌, sym}
+use Rattle.std.proofs.Common.{[], List, ap, arith, cond, drop, get_or, length, map, refl, set, subst, suc, take, zero}
+use Rattle.std.proofs.Common.{ℕ, ◌%◌, ◌*◌, ◌++◌, ◌+◌, ◌-◌, ◌/◌, ◌<◌, ◌^◌, ◌∙◌, ◌∷◌, ◌≡◌, ◌≢◌, ◌≤◌, sym}
 use Rattle.std.proofs.lemmas.Bool.{eqb-false, eqb-true}
 use Rattle.std.proofs.lemmas.List.{drop_more, length-append, map-append, take_more}
 use Rattle.std.specs.Prelude.{None, nat_le, nat_lt}
@@ -24,8 +24,7 @@ use Rattle.nr_core.specs.Operations.{going, target_of}
 use Rattle.nr_core.specs.Refusals.{refusal}
 use Rattle.nr_core.specs.Roles.{retirements}
 use Rattle.nr_core.specs.Slots.{content, name_number}
-use Rattle.nr_core.specs.States.{Arrive, Ask, Depart, Event, FindAgain, Go, Read, Start, State, hold_of, key_of}
-use Rattle.nr_core.specs.States.{no_retired, slot_in}
+use Rattle.nr_core.specs.States.{Arrive, Depart, Event, Go, Read, Start, State, hold_of, key_of, no_retired, slot_in}
 use Rattle.nr_core.specs.Story.{Poll, holders_from, is_on, map_after, poll_at, polls_after, polls_at}
 use Rattle.nr_core.specs.Sums.{only, total}
 use Rattle.nr_core.specs.Writer.{polls_on, taking_retired, went}
@@ -33,7 +32,7 @@ use Rattle.nr_core.specs.declared.calls.Step.{Step}
 use Rattle.nr_core.specs.declared.calls.Step.TheVariants.{Going}
 use Rattle.nr_core.specs.declared.places.Hold.{Hold}
 use Rattle.nr_core.specs.declared.places.Place.{Place}
-use Rattle.nr_core.specs.declared.places.Place.TheVariants.{Idle, Leaving, Putting, Reading, Searching, Withdrawing}
+use Rattle.nr_core.specs.declared.places.Place.TheVariants.{Idle, Putting, Reading, Searching}
 use Rattle.nr_core.specs.declared.places.Retired.{Retired}
 use Rattle.nr_core.specs.declared.roles.Desk.{Desk}
 use Rattle.nr_core.specs.declared.roles.Role.TheVariants.{Writer}
@@ -252,8 +251,6 @@ go_swept state log polls is_core s (Reading call slot got) is = record {
       call slot (got ++ found_by state Go ∷ []);
   held = s.held;
 }
-go_swept state log polls is_core s (Leaving key) is = record { few = s.few; sweep = tt; held = s.held }
-go_swept state log polls is_core s (Withdrawing key) is = record { few = s.few; sweep = tt; held = s.held }
 go_swept state log polls is_core s (Putting call rows slot departed index) is = record {
   few = s.few;
   sweep = on_test (Good state.holds polls) (nat_le index (2 * length rows)) (λ _. tt) (λ _. tt);
@@ -287,6 +284,7 @@ go_swept state log polls is_core s (Searching call rows poll) is =
       held = all_more has_holder polls (poll_at state poll) (record { slot = 0; holders = [] }) s.held
           (some_holder entry.slot state.holds 1 here);
     })
+go_swept state log polls is_core s other is = record { few = s.few; sweep = tt; held = s.held }
 
 pub swept_event : (state : State) (log : List Entry) (polls : List Poll) (event : Event) → IsCoreState state log
     → Swept state polls → refusal state event ≡ None → Swept (moved state event) (polls_after state polls event)
@@ -299,7 +297,6 @@ swept_event state log polls (Arrive reader key) is_core s ok =
       arrive_clear state log is_core key at.2 poll,
     ))
     s
-swept_event state log polls (Ask reader key) is_core s ok = s
 swept_event state log polls (Read reader index) is_core s ok =
     let at = at_reader state.shape reader _ ok in
     let found = get_or state.words (content state.shape (slot_in (hold_of state reader)) index) 0 in
@@ -309,7 +306,6 @@ swept_event state log polls (Depart reader) is_core s ok =
     let at = at_reader state.shape reader _ ok in
     held_swept (reader - 1) hold.Nothing (omega (arith, at.0, at.1, is_core.fit.size))
     (λ poll. clear-le (drop poll state.desk.retired) (get_or state.holds (reader - 1) hold.Nothing)) s
-swept_event state log polls (FindAgain reader key) is_core s ok = s
 swept_event state log polls (Start call) is_core s ok = record {
   few = omega arith;
   sweep =
@@ -319,3 +315,4 @@ swept_event state log polls (Start call) is_core s ok = record {
   held = λ i low. absurd (omega arith);
 }
 swept_event state log polls Go is_core s ok = go_swept state log polls is_core s state.desk.place refl
+swept_event state log polls other is_core s ok = s
