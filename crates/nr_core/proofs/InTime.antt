@@ -93,40 +93,32 @@ tells_own state Go =
     tells_ending_at state.desk.place (went state.shape state.desk state.desk.place (found_by state Go)).1
 tells_own state other = inl refl
 
--- What an event leaves of the writer's call: the call, and the writer told nothing; or none; or the call that it began.
+-- What an event leaves of the writer's call, where it is refused so: the call, and the writer told nothing; or none; or
+-- the call that it began.
+abbrev LeavesIf : Story → Event → Option Refusal → Type 0
+LeavesIf story event o =
+    let after = unless o story.state (moved story.state event) in
+    let tells = unless o [] (told story.state event) in
+    ((call_in after.desk.place ≡ under_way story) × (entries_of tells 0 ≡ []))
+    ⊎ (call_in after.desk.place ≡ [])
+    ⊎ ((call : WriterCall) × (event ≡ Start call) × (o ≡ None) × (call_in after.desk.place ≡ call ∷ [])
+    × (entries_of tells 0 ≡ []))
+
 abbrev Leaves : Story → Event → Type 0
-Leaves story event =
-    ((under_way (tell story event) ≡ under_way story) × (entries_of (told_by story event) 0 ≡ []))
-    ⊎ (under_way (tell story event) ≡ [])
-    ⊎ ((call : WriterCall) × (event ≡ Start call) × (refusal story.state event ≡ None)
-    × (under_way (tell story event) ≡ call ∷ []) × (entries_of (told_by story event) 0 ≡ []))
+Leaves story event = LeavesIf story event (refusal story.state event)
 
 no_ending_at : (place : Place) (step : Step) → step ≡ Going → ending_at place step ≡ []
 no_ending_at Idle step e = refl
 no_ending_at other step e = ap (ending _) e
 
 -- an event that is refused leaves all as it was; of one that isn't it is enough to know what it does
-leaves_if : (story : Story) (event : Event)
-    → (refusal story.state event ≡ None →
-    let after = moved story.state event in
-    let tells = told story.state event in
-    ((call_in after.desk.place ≡ under_way story) × (entries_of tells 0 ≡ []))
-    ⊎ (call_in after.desk.place ≡ [])
-    ⊎ ((call : WriterCall) × (event ≡ Start call) × (call_in after.desk.place ≡ call ∷ []) × (entries_of tells 0 ≡ [])))
+leaves_if : (story : Story) (event : Event) → (refusal story.state event ≡ None → LeavesIf story event None)
     → Leaves story event
 leaves_if story event does = go (refusal story.state event) refl
   where
-    go : (o : Option Refusal) → refusal story.state event ≡ o →
-        ((call_in (unless o story.state (moved story.state event)).desk.place ≡ under_way story)
-        × (entries_of (unless o [] (told story.state event)) 0 ≡ []))
-        ⊎ (call_in (unless o story.state (moved story.state event)).desk.place ≡ [])
-        ⊎ ((call : WriterCall) × (event ≡ Start call) × (refusal story.state event ≡ None)
-        × (call_in (unless o story.state (moved story.state event)).desk.place ≡ call ∷ [])
-        × (entries_of (unless o [] (told story.state event)) 0 ≡ []))
+    go : (o : Option Refusal) → refusal story.state event ≡ o → LeavesIf story event o
     go (Some why) _ = inl (refl, refl)
-    go None ok =
-        ⊎_elim (λ kept. inl kept)
-        (⊎_elim (λ none. inr (inl none)) (λ began. inr (inr (began.0, began.1, ok, began.2, began.3)))) (does ok)
+    go None ok = does ok
 
 -- what a reader's event tells isn't the writer's
 of_reader : (story : Story) (event : Event) → 0 < caller_of_event event → entries_of (told story.state event) 0 ≡ []
@@ -142,7 +134,8 @@ leaves story (Start call) = leaves_if story (Start call) (λ _.
     let state = story.state in
     let outcome = looked state.shape state.desk call (found_by state (Start call)) in
     ⊎_elim (λ none. inr (inl none))
-    (λ on. inr (inr (call, refl, on.0, ap (λ entries. entries_of entries 0) (ap (ending (call_of call)) on.1))))
+    (λ on. inr (inr
+    (call, refl, refl, on.0, ap (λ entries. entries_of entries 0) (ap (ending (call_of call)) on.1))))
     (looked_has state.shape state.desk (λ call. GoesOn (call ∷ [])) (found_by state (Start call))
     (on_now state.shape state.desk (ShownBy state.shape (found_by state (Start call)))) call))
 leaves story Go = leaves_if story Go (λ _.

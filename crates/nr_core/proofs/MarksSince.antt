@@ -89,6 +89,18 @@ module _ {A : Type 0} (role : A → Role) (marks : A → Marks) where
       → role who ≡ Reader reader grip → gripped grip ≡ Some slot
       → Keeps mine slot (marks who).put × (0 < retirements slot desk.retired → HasHolder callers reader slot)
 
+  -- so where one caller changes, and those that do not hold as before
+  pub holders_stay : {shape : Shape} {words : List ℕ} {callers : List A} {log : List Entry} {desk : Desk} {mine : Marks}
+      → Desked role marks shape words callers log desk mine → (id : ℕ) (next : A)
+      → ((reader slot : ℕ) (grip : Grip) → role next ≡ Reader reader grip → gripped grip ≡ Some slot
+      → Keeps mine slot (marks next).put × (0 < retirements slot desk.retired → HasHolder callers reader slot))
+      → HoldersStay callers (set callers id next) desk mine
+  holders_stay {callers = callers} t id next own place reader slot who grip there reads on = ⊎_elim
+      (λ (z : (place ≡ id) × (next ≡ who)). rw (sym z.1) (own reader slot grip (ap role z.1 ∙ reads) on))
+      (λ (z : (place ≢ id) × (get_elem? callers place ≡ some who)).
+      (t.held place reader slot who grip z.1 reads on, λ _. (place, who, grip, z.1, reads, on)))
+      (at_set callers id place next who there)
+
   hold_no_others : (callers callers' : List A) (desk : Desk) (mine : Marks) → HoldersStay callers callers' desk mine
       → (polls : List Past) → HoldNoOthers role marks callers desk polls → HoldNoOthers role marks callers' desk polls
   hold_no_others callers callers' desk mine stay polls other at note here place slot who grip there is holds rests =
@@ -200,12 +212,7 @@ module _ {A : Type 0} (role : A → Role) (marks : A → Marks) where
       set_marked shape words words' callers log log' id me next m at (λ _ _. (desk', is))
       (rw is (desk_frame shape words' words' callers (set callers id next) log' log' desk' (marks next) (λ _ _. refl)
       (λ _. refl) refl (λ old. since_set callers id me next old at (evolves_writer me next desk was))
-      (λ place reader slot who grip there reads holds. ⊎_elim
-      (λ (z : (place ≡ id) × (next ≡ who)). absurd
-      (not_both (role next) desk' reader grip is (ap role z.1 ∙ reads)))
-      (λ (z : (place ≢ id) × (get_elem? callers place ≡ some who)).
-      (own.held place reader slot who grip z.1 reads holds, λ _. (place, who, grip, z.1, reads, holds)))
-      (at_set callers id place next who there))
+      (holders_stay own id next (λ reader slot grip reads _. absurd (not_both (role next) desk' reader grip is reads)))
       (λ _ _ _. refl) own))
       (λ j u desk'' ne there writes _. absurd (omega (
         arith,
@@ -231,15 +238,9 @@ module _ {A : Type 0} (role : A → Role) (marks : A → Marks) where
       (rw is (subst (λ r. KnowsMarks role marks shape words callers log r (marks me)) was (m.each id me at)))
       (λ j u desk ne there writes t. desk_frame shape words words' callers (set callers id next) log log' desk (marks u)
       names puts many (λ old. since_set callers id me next old at step)
-      (λ place reader slot who grip here reads on. ⊎_elim
-      (λ (z : (place ≡ id) × (next ≡ who)).
-      let both : Reader c y ≡ Reader reader grip = sym is ∙ ap role z.1 ∙ reads in
+      (holders_stay t id next (λ reader slot grip reads on.
+      let both : Reader c y ≡ Reader reader grip = sym is ∙ reads in
       let number : c ≡ reader = cc in
       let held : gripped y ≡ Some slot = cc in
-      let h = holds j slot u desk there writes t held in (
-        (h.0.0 ∙ ap (λ (b : A). (marks b).put) z.1, h.0.1),
-        λ l. (id, me, x, at, was ∙ ap (λ (b : ℕ). Reader b x) number, h.1 l),
-      ))
-      (λ (z : (place ≢ id) × (get_elem? callers place ≡ some who)).
-      (t.held place reader slot who grip z.1 reads on, λ _. (place, who, grip, z.1, reads, on)))
-      (at_set callers id place next who here)) contents t)
+      let h = holds j slot u desk there writes t held in
+      (h.0, λ l. (id, me, x, at, was ∙ ap (λ (b : ℕ). Reader b x) number, h.1 l)))) contents t)

@@ -2,7 +2,7 @@
 use Rattle.std.proofs.Common.{List, [], ap, arith, false, get_or, length, refl, replicate, subst, suc, sym, zero, ℕ}
 use Rattle.std.proofs.Common.{◌*◌, ◌++◌, ◌+◌, ◌<◌, ◌∙◌, ◌∷◌, ◌≡◌, ◌≤◌}
 use Rattle.std.proofs.Math.ListN.{get_or-append}
-use Rattle.std.proofs.lemmas.List.{get_or-replicate, length-append, length-replicate}
+use Rattle.std.proofs.lemmas.List.{get_or-replicate, length-append, length-replicate, get_or-append-add}
 use lib.ListN.{get_elem?}
 use mathlib.Core.Option.{some, some-injective, some-ne-none}
 use Rattle.nr_model.specs.Maps.{number_of}
@@ -55,15 +55,8 @@ only_readers zero i j u e = absurd (some-ne-none u (sym e))
 only_readers (suc n) i zero u e = (suc i, some-injective (Reader (suc i) Nothing) u e)
 only_readers (suc n) i (suc j) u e = only_readers n (suc i) j u e
 
-front : (n x : ℕ) (l : List ℕ) (k : ℕ) → k < n → get_or (replicate n x ++ l) k 0 ≡ x
-front zero x l k low = absurd (omega arith)
-front (suc n) x l zero low = refl
-front (suc n) x l (suc k) low = front n x l k (omega arith)
-
 past : (a l : List ℕ) (i j : ℕ) → i ≡ length a + j → get_or (a ++ l) i 0 ≡ get_or l j 0
-past [] l i j e = ap (λ (n : ℕ). get_or l n 0) (omega arith)
-past (x ∷ a) l zero j e = absurd (omega arith)
-past (x ∷ a) l (suc i) j e = past a l i j (omega arith)
+past a l i j e = rw e (get_or-append-add a l j 0)
 
 -- a word of a slot at the opening
 each_word : (room n slot : ℕ) (block : List ℕ) (i j : ℕ) → length block ≡ suc room → j < suc room → slot < n
@@ -111,7 +104,9 @@ core_opens shape fits n few =
     let all = all_readers n 0 in
     let hole : ℕ = hole_word shape.first_number false in
     let is_hole = hole_is shape.first_number (omega arith) in
-    let key_hole = front shape.keys hole (repeated shape.slots slot) in
+    let key_hole : (k : ℕ) → k < shape.keys → get_or words k 0 ≡ hole
+    = λ k near. get_or-append (replicate shape.keys hole) (repeated shape.slots slot) 0 k
+    (omega (arith, length-replicate {A = ℕ} shape.keys hole)) ∙ get_or-replicate shape.keys k hole 0 near in
     let wide : length words ≡ total_of (layout shape) = omega (
       arith,
       length-append (replicate shape.keys hole) (repeated shape.slots slot),

@@ -1,6 +1,6 @@
 -- What holds of a state that events lead to: the next event leads on, and the writer's next step has room.
-use Rattle.std.proofs.Common.{List, [], ap, arith, false, get_or, length, map, refl, subst, suc, sym, true, zero, ℕ}
-use Rattle.std.proofs.Common.{◌++◌, ◌+◌, ◌-◌, ◌<◌, ◌∙◌, ◌∷◌, ◌≡◌, ◌≤◌}
+use Rattle.std.proofs.Common.{List, [], ap, arith, false, get_or, length, map, refl, subst, suc, sym, true, ℕ, ◌++◌}
+use Rattle.std.proofs.Common.{◌+◌, ◌-◌, ◌<◌, ◌∙◌, ◌∷◌, ◌≡◌}
 use Rattle.std.proofs.Math.Logic.{∥∥₁_map}
 use Rattle.std.proofs.Props.{props}
 use Rattle.std.specs.Prelude.{None, Option, Some, fold, option_map}
@@ -36,6 +36,7 @@ use Rattle.nr_core.specs.declared.roles.Grip.TheVariants.{Nothing, On}
 use Rattle.nr_core.specs.declared.roles.Role.TheVariants.{Reader, Writer}
 use Rattle.nr_core.specs.declared.shape.Shape.{Shape}
 use Rattle.nr_model.specs.declared.states.KeyState.{KeyState}
+use Rattle.std.proofs.lemmas.List.{get_or_past}
 use Rattle.nr_core.specs.declared.places.Hold.TheVariants as hold
 use Rattle.nr_model.specs.declared.states.KeyState.TheVariants as key
 
@@ -88,17 +89,12 @@ grip_room shape words map holders Nothing t = tt
 grip_room shape words map holders (On slot rows true) t = let short = t.1.0.1 in (t.0, omega arith)
 grip_room shape words map holders (On slot rows false) t = t.0
 
-pub none_beyond : (l : List Hold) (i : ℕ) → length l ≤ i → get_or l i hold.Nothing ≡ hold.Nothing
-none_beyond [] i out = refl
-none_beyond (x ∷ l) zero out = absurd (omega arith)
-none_beyond (x ∷ l) (suc i) out = none_beyond l i (omega arith)
-
 pub hold_room : (state : State) (log : List Entry) → IsCoreState state log → (reader : ℕ) → 0 < reader
     → RoomOf state.shape (hold_of state reader)
 hold_room state log is_core reader low =
     let i : ℕ = reader - 1 in
     dite (dec_le state.shape.readers i)
-    (λ out. subst (RoomOf state.shape) (sym (none_beyond state.holds i (omega arith))) tt)
+    (λ out. subst (RoomOf state.shape) (sym (get_or_past state.holds i hold.Nothing (omega arith))) tt)
     (λ inside. let o = is_core.fit.readers i (omega arith) in
     subst (RoomOf state.shape) (sym o.2)
     (grip_room state.shape state.words (map_after state.shape log) (held is_core.roles) o.0

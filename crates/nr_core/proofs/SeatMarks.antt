@@ -1,12 +1,12 @@
 -- The marks of the first caller, of one more caller, and of one whose view changes beside its role.
 use Rattle.std.proofs.Common.{List, [], ap, arith, get_or, inl, refl, set, subst, suc, sym, zero, ℕ, ⊎_elim, ◌++◌, ◌<◌}
-use Rattle.std.proofs.Common.{◌∙◌, ◌∷◌, ◌≡◌, ◌≢◌, ◌⊎◌}
+use Rattle.std.proofs.Common.{◌∙◌, ◌∷◌, ◌≡◌, ◌⊎◌}
 use Rattle.std.proofs.lemmas.List.{length-replicate}
 use Rattle.std.specs.Prelude.{None, Some, replicate}
 use lib.ListN.{get_elem?}
 use mathlib.Core.Option.{some, some-injective, some-ne-none}
 use Rattle.nr_model.specs.Histories.{Entry}
-use Rattle.nr_core.proofs.Sums.{at_set, at_snoc}
+use Rattle.nr_core.proofs.Sums.{at_snoc}
 use Rattle.nr_core.specs.Roles.{is_reader}
 use Rattle.nr_core.specs.Slots.{name_number, content, SlotSpells}
 use Rattle.nr_core.specs.States.{opening_desk}
@@ -20,6 +20,7 @@ use Rattle.nr_core.specs.Marked.{Desked, Evolves, KnowsMarks, Marked, Since}
 use Rattle.nr_core.proofs.Opening.{none_named}
 use Rattle.nr_core.proofs.ListPlaces.{at_left, no_places}
 use Rattle.nr_core.proofs.MarksSince.{desk_frame, knows_frame, knows_loads, set_marked, since_set, since_snoc}
+use Rattle.nr_core.proofs.MarksSince.{holders_stay}
 use Rattle.nr_model.specs.declared.rows.Row.{Row}
 
 blanks : {A : Type 0} (none : A) (n i : ℕ) → get_or (replicate n none) i none ≡ none
@@ -130,20 +131,12 @@ module _ {A : Type 0} (role : A → Role) (marks : A → Marks) where
         desk_alike desk mine t =
             desk_frame role marks shape words words callers (set callers id next) log log desk mine (λ _ _. refl)
             (λ _. refl) refl (λ old. since_set role marks callers id me next old at evolves_alike)
-            (λ place reader slot who grip there reads on. ⊎_elim
-            (λ (z : (place ≡ id) × (next ≡ who)).
-            let before : role me ≡ Reader reader grip = sym same ∙ ap role z.1 ∙ reads in
+            (holders_stay role marks t id next (λ reader slot grip reads on.
+            let before : role me ≡ Reader reader grip = sym same ∙ reads in
             let kept = t.held id reader slot me grip at before on in (
-              (
-                kept.0 ∙ ap (λ (b : Marks). b.put) (sym (reader_marks reader grip before))
-                    ∙ ap (λ (b : A). (marks b).put) z.1,
-                kept.1,
-              ),
+              (kept.0 ∙ ap (λ (b : Marks). b.put) (sym (reader_marks reader grip before)), kept.1),
               λ _. (id, me, grip, at, before, on),
-            ))
-            (λ (z : (place ≢ id) × (get_elem? callers place ≡ some who)).
-            (t.held place reader slot who grip z.1 reads on, λ _. (place, who, grip, z.1, reads, on)))
-            (at_set callers id place next who there))
+            )))
             (λ _ _ _. refl) t
 
         own : KnowsMarks role marks shape words (set callers id next) log (role next) (marks next)

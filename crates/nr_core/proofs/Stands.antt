@@ -1,6 +1,6 @@
 -- What the core state of a story says in the words of the law: what stands between any two steps.
-use Rattle.std.proofs.Common.{Bool, List, ap, arith, cond, false, get_or, inl, inr, length, map, nat_eq}
-use Rattle.std.proofs.Common.{sym, true, ℕ, ⊎_elim, ◌*◌, ◌-◌, ◌<◌, ◌∙◌, ◌≡◌, ◌⊎◌}
+use Rattle.std.proofs.Common.{Bool, List, ap, arith, cond, false, get_or, inl, inr, length, map, nat_eq, sym, true, ℕ}
+use Rattle.std.proofs.Common.{⊎_elim, ◌*◌, ◌-◌, ◌<◌, ◌∙◌, ◌≡◌, ◌⊎◌}
 use Rattle.std.proofs.lemmas.Bool.{eqb-true, leb-true, lt-leb}
 use Rattle.std.specs.Prelude.{None, Ok, Option, Some, nat_le}
 use lib.ListN.{get_elem?}
@@ -14,7 +14,6 @@ use Rattle.nr_words.proofs.SetWordLemmas.{length-row_words}
 use Rattle.nr_words.specs.SetWords.{encode}
 use Rattle.nr_core.proofs.Counting.{named_inside}
 use Rattle.nr_core.proofs.Guards.{guard}
-use Rattle.nr_core.proofs.Reach.{none_beyond}
 use Rattle.nr_core.proofs.Shown.{shown_is}
 use Rattle.nr_core.proofs.StateRoles.{IsCoreState, erased, state_sums, found_of, reader_of}
 use Rattle.nr_core.proofs.Sums.{got_at, only-is, only-same, term_le}
@@ -33,6 +32,7 @@ use Rattle.nr_core.specs.declared.roles.Grip.{Grip}
 use Rattle.nr_core.specs.declared.roles.Grip.TheVariants.{Nothing, On}
 use Rattle.nr_core.specs.declared.roles.Role.TheVariants.{Reader, Writer}
 use Rattle.nr_core.specs.declared.shape.Shape.{Shape}
+use Rattle.std.proofs.lemmas.List.{get_or_past}
 use Rattle.nr_core.specs.declared.places.Hold.TheVariants as hold
 use Rattle.nr_core.specs.declared.calls.Refusal.TheVariants as refuse
 
@@ -85,7 +85,7 @@ module _ (story : Story) (is_core : IsCoreState story.state story.history) (r s 
   holder_role =
       let high = dite (dec_le r story.state.shape.readers) (λ l. l)
       (λ l.
-      let none = none_beyond story.state.holds (r - 1) (omega arith) in
+      let none = get_or_past story.state.holds (r - 1) hold.Nothing (omega arith) in
       absurd (cc)) in
       let o = reader_of is_core.fit r low high in
       let x = erased_is o.0 s n (sym o.2 ∙ holds_it) in

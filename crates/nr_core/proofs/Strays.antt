@@ -19,6 +19,7 @@ use Rattle.nr_core.specs.Pasts.{AllCurrent, Living}
 use Rattle.nr_core.specs.Exact.{Tidy, named_puts, pinned_put, pins, retired_puts}
 use Rattle.nr_core.proofs.HowOften.{count_is, how_often, stray_count, strays_count}
 use Rattle.nr_core.proofs.ListPlaces.{at_maps, at_unmap}
+use Rattle.std.proofs.lemmas.List.{length-map}
 
 -- 1 where the number stands in the list
 abbrev stands : List ℕ → ℕ → ℕ
@@ -102,8 +103,7 @@ one_less qs (x ∷ rs) zero r e z =
 one_less qs (x ∷ rs) (suc p) r e z = let t = one_less qs rs p r e z in let m = stands-le qs x in omega arith
 
 length-retired_puts : (puts : List ℕ) (l : List Retired) → length (retired_puts puts l) ≡ length l
-length-retired_puts puts [] = refl
-length-retired_puts puts (x ∷ xs) = ap suc (length-retired_puts puts xs)
+length-retired_puts puts l = length-map l (λ (x : Retired). get_or puts x.slot 0)
 
 -- a put number that is pinned is a reader's
 abbrev PinnedBy : List Past → ℕ → Type 0
