@@ -7,9 +7,8 @@ use Rattle.nr_model.specs.Maps.{is_filled_key, state_of}
 use Rattle.nr_model.specs.declared.states.KeyState.{KeyState}
 use Rattle.nr_core.proofs.Choices.{by_cases}
 use Rattle.nr_core.proofs.Histories.{length-now}
-use Rattle.nr_core.proofs.Sums.{below-first, below-same}
 use Rattle.nr_core.specs.Story.{map_after}
-use Rattle.nr_core.specs.Sums.{below, only}
+use Rattle.nr_core.specs.Sums.{only, total}
 use Rattle.nr_core.specs.declared.roles.Desk.{Desk}
 use Rattle.nr_core.specs.declared.shape.Shape.{Shape}
 use Rattle.nr_core.specs.Puts.{put_number}
@@ -17,7 +16,7 @@ use Rattle.nr_model.specs.Strays.{keyed, strays}
 use Rattle.nr_core.specs.Marks.{Marks}
 use Rattle.nr_core.specs.Exact.{Lists, filled_puts, named_puts}
 use Rattle.nr_core.proofs.HowOften.{how_often, stray_count, strays_count}
-use Rattle.nr_core.proofs.Tidy.{name_has, named_often, below-list}
+use Rattle.nr_core.proofs.Tidy.{name_has, named_often}
 use Rattle.nr_model.specs.declared.states.KeyState.TheVariants as key
 
 -- the put numbers of the filled keys, of the states of the keys from `at` on
@@ -28,25 +27,22 @@ puts_from log at states = keyed states (map (put_number log) (range_with_len at 
 abbrev key_has : List Entry → ℕ → Bool → ℕ → ℕ
 key_has log number filled at = cond filled (only number (put_number log at)) 0
 
-puts_from_often : (number : ℕ) (log : List Entry) (at : ℕ) (states : List KeyState)
-    → how_often number (puts_from log at states)
-    ≡ below (λ i. key_has log number (is_filled_key (get_or states i (key.Hole 0))) (at + i)) (length states)
-puts_from_often number log at [] = refl
-puts_from_often number log at (state ∷ states) =
-    let next : at + 1 ≡ suc at = omega arith in
-    let t = ap (λ (y : ℕ). how_often number (puts_from log y states)) next
-    ∙ puts_from_often number log (suc at) states in
-    let f
-    = below-first (λ i. key_has log number (is_filled_key (get_or (state ∷ states) i (key.Hole 0))) (at + i))
-    (length states) in
-    let here : at + 0 ≡ at = omega arith in
-    let first = ap (key_has log number (is_filled_key state)) here in
-    let later
-    = below-same (λ i. key_has log number (is_filled_key (get_or states i (key.Hole 0))) (suc at + i))
-    (λ i. key_has log number (is_filled_key (get_or states i (key.Hole 0))) (at + suc i)) (length states)
-    (λ i _.
-    let shift : suc at + i ≡ at + suc i = omega arith in
-    ap (key_has log number (is_filled_key (get_or states i (key.Hole 0)))) shift) in
+-- names that are of the filled keys, one by one, have their put numbers as often
+puts_from_often : (number : ℕ) (puts names : List ℕ) (log : List Entry) (at : ℕ) (states : List KeyState)
+    → length names ≡ length states
+    → ((i : ℕ) → i < length names → name_has puts number (get_or names i 0)
+    ≡ key_has log number (is_filled_key (get_or states i (key.Hole 0))) (at + i))
+    → total (name_has puts number) names ≡ how_often number (puts_from log at states)
+puts_from_often number puts [] log at [] size each = refl
+puts_from_often number puts [] log at (state ∷ states) size each = absurd (omega arith)
+puts_from_often number puts (name ∷ names) log at [] size each = absurd (omega arith)
+puts_from_often number puts (name ∷ names) log at (state ∷ states) size each =
+    let here = each 0 (omega arith) in
+    let at_first : at + 0 ≡ at = omega arith in
+    let first = ap (key_has log number (is_filled_key state)) at_first in
+    let later = puts_from_often number puts names log (at + 1) states (omega arith) (λ i low.
+    let shift : at + suc i ≡ at + 1 + i = omega arith in
+    each (suc i) (omega arith) ∙ ap (key_has log number (is_filled_key (get_or states i (key.Hole 0)))) shift) in
     let head = by_cases
     (λ b. how_often number
     (cond b (put_number log at ∷ puts_from log (at + 1) states) (puts_from log (at + 1) states))
@@ -69,22 +65,12 @@ pub named_are_filled_puts : (desk : Desk) (marks : Marks) (shape : Shape) (log :
     → Lists desk marks shape log → (number : ℕ)
     → how_often number (named_puts marks.puts marks.names) ≡ how_often number (filled_puts shape log)
 named_are_filled_puts desk marks shape log lists number = named_often marks.puts marks.names number
-    ∙ below-list (name_has marks.puts number) marks.names
-    ∙ ap (λ (n : ℕ). below (λ i. name_has marks.puts number (get_or marks.names i 0)) n)
-    lists.wide
-    ∙ below-same (λ i. name_has marks.puts number (get_or marks.names i 0))
-    (λ i. key_has log number (is_filled_key (state_of (map_after shape log) i)) i) shape.keys
-    (λ i near. name_is_key desk marks shape log lists number i (get_or marks.names i 0) near refl)
-    ∙ below-same (λ i. key_has log number (is_filled_key (state_of (map_after shape log) i)) i)
-    (λ i. key_has log number (is_filled_key (get_or (map_after shape log).states i (key.Hole 0))) (0 + i)) shape.keys
-    (λ i _.
+    ∙ puts_from_often number marks.puts marks.names log 0 (map_after shape log).states
+    (lists.wide ∙ sym (length-now shape log))
+    (λ i low.
     let shift : i ≡ 0 + i = omega arith in
-    ap (key_has log number (is_filled_key (state_of (map_after shape log) i))) shift)
-    ∙ ap
-    (λ (n : ℕ). below
-    (λ i. key_has log number (is_filled_key (get_or (map_after shape log).states i (key.Hole 0))) (0 + i)) n)
-    (sym (length-now shape log))
-    ∙ sym (puts_from_often number log 0 (map_after shape log).states)
+    name_is_key desk marks shape log lists number i (get_or marks.names i 0) (omega (arith, lists.wide)) refl
+    ∙ ap (key_has log number (is_filled_key (state_of (map_after shape log) i))) shift)
     ∙ ap (λ (n : ℕ). how_often number (keyed (map_after shape log).states (map (put_number log) (range_with_len 0 n))))
     (length-now shape log)
 

@@ -71,9 +71,9 @@ reached_next state event given reached = let kept = shape_kept state event in re
 }
 
 -- an event leads on
-pub leads_on : (state : State) (event : Event) → IsGiven (bound_of state.shape) event → ∥ Reached state ∥₁
+pub leads_on : {state : State} (event : Event) → IsGiven (bound_of state.shape) event → ∥ Reached state ∥₁
     → ∥ Reached (next_state state event) ∥₁
-leads_on state event given reached = ∥∥₁_map reached (reached_next state event given)
+leads_on {state} event given reached = ∥∥₁_map reached (reached_next state event given)
 
 reached_core : (state : State) (reached : Reached state)
     → IsCoreState state (story_of state.shape reached.events).history
@@ -167,8 +167,8 @@ place_prop state other = hlevel props
 room_prop : (state : State) → IsProp (HasRoom state)
 room_prop state = hlevel (props, hold_prop, place_prop)
 
-pub has_room : (state : State) → ∥ Reached state ∥₁ → HasRoom state
-has_room state reached = ∥∥₁_elim reached (room_prop state) (room_of state)
+pub has_room : {state : State} → ∥ Reached state ∥₁ → HasRoom state
+has_room {state} reached = ∥∥₁_elim reached (room_prop state) (room_of state)
 
 -- THE NUMBER OF A KEY
 

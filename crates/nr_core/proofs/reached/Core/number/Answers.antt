@@ -5,7 +5,7 @@ use Rattle.nr_core.specs.Parts.{machine_state}
 use Rattle.nr_core.proofs.reached.Core.number.Goals as goal
 
 pub number-requires-clause-listed : goal.number-requires-clause-listed
-number-requires-clause-listed c = (has_room (machine_state c.self.inside.machine) c.self.invariant).numbers
+number-requires-clause-listed c = (has_room c.self.invariant).numbers
 
 pub returns-clause-shown : goal.returns-clause-shown
 returns-clause-shown c =

@@ -1,12 +1,9 @@
 use Rattle.nr_core.specs.States.{Read}
 use Rattle.nr_core.proofs.Reach.{has_room, leads_on}
-use Rattle.nr_core.specs.Parts.{machine_state}
 use Rattle.nr_core.proofs.reached.Core.read.Goals as goal
 
 pub read-requires : goal.read-requires
-read-requires c = has_room (machine_state c.self.inside.machine) c.self.invariant
+read-requires c = has_room c.self.invariant
 
 pub invariant_of-self : goal.invariant_of-self
-invariant_of-self c =
-    rw c.read.ensures.new
-    (leads_on (machine_state c.self.inside.machine) (Read c.args.reader c.args.index) tt c.self.invariant)
+invariant_of-self c = rw c.read.ensures.new (leads_on (Read c.args.reader c.args.index) tt c.self.invariant)
