@@ -1,6 +1,6 @@
 -- A reader arrives: it finds the key's set and holds its slot, or finds a hole.
-use Rattle.std.proofs.Common.{List, [], ap, arith, false, get_or, inl, inr, refl, suc, sym, ℕ, ◌%◌, ◌+◌, ◌<◌, ◌^◌, ◌∙◌}
-use Rattle.std.proofs.Common.{◌∷◌, ◌≡◌, cond, ◌≢◌}
+use Rattle.std.proofs.Common.{List, [], ap, arith, false, get_or, inl, inr, refl, suc, sym, ℕ, ◌%◌, ◌+◌, ◌^◌, ◌∙◌, ◌∷◌}
+use Rattle.std.proofs.Common.{◌≡◌, cond, ◌≢◌}
 use Rattle.nr_model.specs.Maps.{find_reply, state_of}
 use Rattle.nr_model.specs.declared.calls.Reply.{Reply}
 use Rattle.nr_model.specs.declared.states.KeyState.{KeyState}
@@ -13,7 +13,7 @@ use Rattle.nr_core.specs.Core.{ShowsState, Grips}
 use Rattle.nr_core.specs.declared.operation.Operation.TheVariants.{Add}
 use Rattle.nr_core.specs.Roles.{holds, grips, held}
 use Rattle.nr_core.specs.Slots.{name_number}
-use Rattle.nr_core.specs.Steps.{Arrives, CanStep, Stepped}
+use Rattle.nr_core.specs.Steps.{Arrives, Stepped}
 use Rattle.nr_core.specs.Story.{entry, map_after}
 use Rattle.nr_core.specs.Sums.{only}
 use Rattle.nr_core.specs.declared.roles.Grip.TheVariants.{Nothing, On}
@@ -24,6 +24,7 @@ use Rattle.nr_core.proofs.Choices.{either}
 use Rattle.nr_core.proofs.Frames.{entry_more}
 use Rattle.nr_core.proofs.FindAgain.{found_hole, named_set}
 use Rattle.nr_core.specs.declared.roles.Grip.{Grip}
+use Rattle.nr_core.specs.StepLaws.{ArriveLaw}
 use Rattle.nr_model.specs.declared.states.KeyState.TheVariants as key
 use Rattle.nr_model.specs.declared.calls.Call.TheVariants as model
 use Rattle.nr_model.specs.declared.calls.Reply.TheVariants as reply
@@ -34,8 +35,7 @@ shows_word : (shape : Shape) (words : List ℕ) (w x : ℕ) (state : KeyState) �
 shows_word shape words w x (key.Rows number rows) n p m t = (t.0, n ∙ t.1, t.2, t.3)
 shows_word shape words w x other n p m t = (n ∙ t.0, p ∙ t.1, m ∙ t.2)
 
-pub arrives : (shape : Shape) (id reader k : ℕ) → k < shape.keys
-    → CanStep shape id (Reader reader Nothing) (Add k ARRIVE) (Arrives shape reader k)
+pub arrives : ArriveLaw
 arrives shape id reader k near words roles log core there =
     let w : ℕ = get_or words k 0 in
     let x : ℕ = (w + ARRIVE) % 2 ^ 64 in

@@ -1,6 +1,6 @@
 -- A reader requests a key: the key is asked, unless it is filled.
-use Rattle.std.proofs.Common.{List, [], ap, arith, cond, eq-eqb, get_or, ne_eqb, refl, subst, sym, ℕ, ◌%◌, ◌++◌, ◌<◌}
-use Rattle.std.proofs.Common.{◌∙◌, ◌∷◌, ◌≡◌}
+use Rattle.std.proofs.Common.{List, [], ap, arith, cond, eq-eqb, get_or, ne_eqb, refl, subst, sym, ℕ, ◌%◌, ◌++◌, ◌∙◌}
+use Rattle.std.proofs.Common.{◌∷◌, ◌≡◌}
 use Rattle.std.specs.Prelude.{bit_or}
 use mathlib.Core.Logic.{dite}
 use native.Mathlib.Decide.{ℕ_discrete}
@@ -14,15 +14,15 @@ use Rattle.nr_core.proofs.KeyWords.{name-asked, names_none, names_one}
 use Rattle.nr_core.proofs.OnKey.{on_key}
 use Rattle.nr_core.proofs.Sums.{total-set}
 use Rattle.nr_core.specs.Core.{ShowsState}
-use Rattle.nr_core.specs.declared.operation.Operation.TheVariants.{Or}
 use Rattle.nr_core.specs.Roles.{holds}
 use Rattle.nr_core.specs.Slots.{name_number}
-use Rattle.nr_core.specs.Steps.{Asks, CanStep, ask_word}
+use Rattle.nr_core.specs.Steps.{ask_word}
 use Rattle.nr_core.specs.Story.{entry, map_after}
 use Rattle.nr_core.specs.declared.roles.Grip.TheVariants.{Nothing}
 use Rattle.nr_core.specs.declared.roles.Role.TheVariants.{Reader}
 use Rattle.nr_core.specs.declared.shape.Shape.{Shape}
 use Rattle.nr_core.proofs.Stepping.{reader_tells}
+use Rattle.nr_core.specs.StepLaws.{AskLaw}
 use Rattle.nr_model.specs.declared.states.KeyState.TheVariants as key
 use Rattle.nr_model.specs.declared.calls.Call.TheVariants as model
 use Rattle.nr_model.specs.declared.calls.Reply.TheVariants as reply
@@ -54,8 +54,7 @@ asked_word shape words w (key.Rows number rows) t =
     (ap (λ b. cond b reply.Filled (cond (has_ask w) reply.Waiting (reply.Send (slot_of w))))
     (names_one w t.0 t.1).0)
 
-pub asks : (shape : Shape) (id reader k : ℕ) → k < shape.keys
-    → CanStep shape id (Reader reader Nothing) (Or k 1) (Asks reader k)
+pub asks : AskLaw
 asks shape id reader k near words roles log core there =
     let w : ℕ = get_or words k 0 in
     let x : ℕ = bit_or w 1 in

@@ -1,19 +1,14 @@
 -- A reader departs from the slot that it holds.
-use Rattle.std.proofs.Common.{Bool, List, arith, refl, sym, ℕ}
-use Rattle.nr_model.specs.declared.rows.Row.{Row}
+use Rattle.std.proofs.Common.{arith, refl, sym}
 use Rattle.nr_core.proofs.Sums.{only-other, only-same, total-set, term_le}
-use Rattle.nr_core.specs.declared.operation.Operation.TheVariants.{Add}
 use Rattle.nr_core.specs.Roles.{holds}
-use Rattle.nr_core.specs.Slots.{departures}
-use Rattle.nr_core.specs.Steps.{CanStep, Departs}
 use Rattle.nr_core.specs.declared.roles.Grip.TheVariants.{Nothing, On}
 use Rattle.nr_core.specs.declared.roles.Role.TheVariants.{Reader}
-use Rattle.nr_core.specs.declared.shape.Shape.{Shape}
 use Rattle.nr_core.proofs.Recount.{recounts}
 use Rattle.nr_core.proofs.Stepping.{reader_quiet}
+use Rattle.nr_core.specs.StepLaws.{DepartLaw}
 
-pub departs : (shape : Shape) (id reader slot : ℕ) (rows : List Row) (sized : Bool)
-    → CanStep shape id (Reader reader (On slot rows sized)) (Add (departures shape slot) 1) (Departs reader)
+pub departs : DepartLaw
 departs shape id reader slot rows sized words roles log core there =
     let role = Reader reader (On slot rows sized) in
     let after = Reader reader Nothing in

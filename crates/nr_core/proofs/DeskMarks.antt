@@ -13,7 +13,7 @@ use Rattle.nr_core.proofs.Settle.{key_same}
 use Rattle.nr_core.proofs.Sums.{below-same}
 use Rattle.nr_core.specs.Core.{Core}
 use Rattle.nr_core.specs.Roles.{held, retirements, taken}
-use Rattle.nr_core.specs.Operations.{becomes, target_of}
+use Rattle.nr_core.specs.Operations.{target_of, operated}
 use Rattle.nr_core.specs.declared.operation.Operation.{Operation}
 use Rattle.nr_core.proofs.Frames.{spells_more}
 use Rattle.nr_core.specs.Slots.{bound_of, content, name_number}
@@ -86,9 +86,7 @@ module _ {A : Type 0} {role : A → Role} {marks : A → Marks} where
       → get_elem? callers id ≡ some me → {desk desk' : Desk} → role me ≡ Writer desk
       → {after : Role} {entries : List Entry} → after ≡ Writer desk' → (now : Marks) (news : List Past)
       → AllSince role marks callers news → NotesPresent role marks callers (marks me).polls now.polls
-      → Desked role marks shape
-      (set words (target_of operation) (becomes operation (get_or words (target_of operation) 0))) callers
-      (log ++ entries) desk' now
+      → Desked role marks shape (operated words operation) callers (log ++ entries) desk' now
       → tells (get_or words (target_of operation) 0) after (log ++ entries) now news
       → Remarked role marks shape words callers log id operation me after entries tells
   writer_step {shape = shape} {id = id} {me = me} {operation = operation} {words = words} {callers = callers}
@@ -99,15 +97,9 @@ module _ {A : Type 0} {role : A → Role} {marks : A → Marks} where
         news = news;
         since = since;
         evolves = λ who _ _. evolves_writer role marks me who desk was;
-        marked = λ who is_role is_marks. marked_writer role marks shape words
-            (set words (target_of operation) (becomes operation (get_or words (target_of operation) 0))) callers log
-            (log ++ entries) id me who desk desk'
-            core at was (is_role ∙ is) m
-            (subst
-            (Desked role marks shape
-            (set words (target_of operation) (becomes operation (get_or words (target_of operation) 0))) callers
-            (log ++ entries) desk')
-            (sym is_marks) own);
+        marked = λ who is_role is_marks. marked_writer role marks shape words (operated words operation) callers log
+            (log ++ entries) id me who desk desk' core at was (is_role ∙ is) m
+            (subst (Desked role marks shape (operated words operation) callers (log ++ entries) desk') (sym is_marks) own);
         noted = noted;
         told = told;
       }

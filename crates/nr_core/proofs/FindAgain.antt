@@ -10,10 +10,8 @@ use Rattle.nr_model.specs.declared.states.KeyState.{KeyState}
 use Rattle.nr_core.proofs.Learn.{nothing}
 use Rattle.nr_core.proofs.Shown.{spelt_set}
 use Rattle.nr_core.specs.Core.{Core, ShowsState}
-use Rattle.nr_core.specs.Steps.{CanStep, FindsAgain}
 use Rattle.nr_core.specs.Slots.{SlotSpells, name_number, names_slot}
 use Rattle.nr_core.specs.Story.{entry, map_after}
-use Rattle.nr_core.specs.declared.operation.Operation.TheVariants.{Load}
 use Rattle.nr_core.specs.declared.roles.Grip.TheVariants.{On}
 use Rattle.nr_core.specs.declared.roles.Role.{Role}
 use Rattle.nr_core.specs.declared.roles.Role.TheVariants.{Reader}
@@ -23,6 +21,7 @@ use Rattle.nr_core.proofs.Choices.{either}
 use Rattle.nr_core.proofs.Frames.{entry_more}
 use lib.ListN.{get_elem?}
 use mathlib.Core.Option.{some}
+use Rattle.nr_core.specs.StepLaws.{FindAgainLaw}
 use Rattle.nr_model.specs.declared.calls.Call.TheVariants as model
 use Rattle.nr_model.specs.declared.calls.Reply.TheVariants as reply
 use Rattle.nr_model.specs.declared.states.KeyState.TheVariants as key
@@ -56,8 +55,7 @@ pub finds : {shape : Shape} {words : List ℕ} {roles : List Role} {log : List E
 finds core id reader k there answer is =
     entry_more (nothing id k core there) (entry reader (model.Find k) answer) (sym is) refl
 
-pub finds_again : (shape : Shape) (id reader slot : ℕ) (rows : List Row) (sized : Bool) (k : ℕ) → k < shape.keys
-    → CanStep shape id (Reader reader (On slot rows sized)) (Load k) (FindsAgain shape reader slot rows sized k)
+pub finds_again : FindAgainLaw
 finds_again shape id reader slot rows sized k near words roles log core there =
     let w : ℕ = get_or words k 0 in
     let e = entry reader (model.Find k) (reply.Rows rows) in

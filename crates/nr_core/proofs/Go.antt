@@ -15,14 +15,13 @@ use Rattle.nr_core.proofs.Swap.{publishes, unpublishes, withdraws}
 use Rattle.nr_core.proofs.Settle.{own_ending, Makes}
 use Rattle.nr_core.proofs.WriterRead.{reads_on}
 use Rattle.nr_core.specs.Core.{Core}
-use Rattle.nr_core.specs.Operations.{becomes, going, target_of}
+use Rattle.nr_core.specs.Operations.{going, target_of, operated}
 use Rattle.nr_core.specs.declared.operation.Operation.{Operation}
 use Rattle.nr_core.specs.declared.operation.Operation.TheVariants.{Store, Swap}
 use Rattle.nr_core.specs.Refusals.{if_not_busy}
 use Rattle.nr_words.specs.KeyWords.{naming}
 use Rattle.nr_core.specs.Slots.{content}
 use Rattle.nr_core.specs.States.{key_of}
-use Rattle.nr_core.specs.Steps.{CanStep, Goes}
 use Rattle.nr_core.specs.Story.{call_of, ending, ending_at}
 use Rattle.nr_core.specs.Writer.{ended, moved_to, swapped, went}
 use Rattle.nr_core.specs.declared.calls.Step.{Step}
@@ -34,6 +33,7 @@ use Rattle.nr_core.specs.declared.roles.Role.{Role}
 use Rattle.nr_core.specs.declared.roles.Role.TheVariants.{Writer}
 use Rattle.nr_core.specs.declared.shape.Shape.{Shape}
 use Rattle.nr_core.proofs.Stepping.{writer_makes}
+use Rattle.nr_core.specs.StepLaws.{GoLaw}
 use Rattle.nr_core.specs.declared.calls.Refusal.TheVariants as refuse
 use Rattle.nr_model.specs.declared.calls.Reply.TheVariants as reply
 
@@ -50,12 +50,10 @@ goes_at {shape} {words} {roles} {log} core id {desk} there (Putting call rows sl
     let operation
     = cond {A = Operation} v (Store (content shape slot index) (get_or (encode rows) index 0))
     (Swap (key_of call) (naming slot departed)) in
-    let found = get_or words (target_of operation) 0 in
     let after
     = cond {A = Desk × Step} v (moved_to desk (Putting call rows slot departed (index + 1)), Going)
-    (swapped desk found, ended reply.Done) in
-    Core shape (set words (target_of operation) (becomes operation found)) (set roles id (Writer after.0))
-    (log ++ ending (call_of call) after.1))
+    (swapped desk (get_or words (target_of operation) 0), ended reply.Done) in
+    Core shape (operated words operation) (set roles id (Writer after.0)) (log ++ ending (call_of call) after.1))
     (nat_le index (2 * length rows)) (λ yes. puts core id there call rows slot departed index is_at
     (leb-true index (2 * length rows) yes)) (λ no. publishes core id there call rows slot departed index is_at
     (leb-false index (2 * length rows) no))
@@ -65,8 +63,7 @@ pub own_ending_at : (place : Place) (step : Step) (caller : ℕ)
 own_ending_at Idle step caller = none_of (nat_eq 0 caller)
 own_ending_at other step caller = own_ending _ step caller
 
-pub goes : (shape : Shape) (id : ℕ) (desk : Desk) → if_not_busy desk.place ≡ None
-    → CanStep shape id (Writer desk) (going shape desk desk.place) (Goes shape desk)
+pub goes : GoLaw
 goes shape id desk busy words roles log core there =
     let after = went shape desk desk.place (get_or words (target_of (going shape desk desk.place)) 0) in
     writer_makes after.0 (ending_at desk.place after.1) (goes_at core id there desk.place busy refl)

@@ -6,11 +6,10 @@ use mathlib.Core.Option.{some}
 use Rattle.nr_model.specs.Histories.{Entry}
 use Rattle.nr_core.proofs.Sums.{set_again}
 use Rattle.nr_core.specs.Core.{Core}
-use Rattle.nr_core.specs.declared.operation.Operation.TheVariants.{Load}
-use Rattle.nr_core.specs.Steps.{CanStep, LoadsWord}
 use Rattle.nr_core.specs.declared.roles.Role.{Role}
 use Rattle.nr_core.specs.declared.shape.Shape.{Shape}
 use Rattle.nr_core.proofs.Stepping.{stays_quiet}
+use Rattle.nr_core.specs.StepLaws.{LearnLaw}
 
 -- a load changes no word, and leaves the roles
 pub nothing : {shape : Shape} {words : List ℕ} {roles : List Role} {log : List Entry} (id i : ℕ) {r : Role}
@@ -19,5 +18,5 @@ pub nothing : {shape : Shape} {words : List ℕ} {roles : List Role} {log : List
 nothing {words = words} {roles = roles} id i {r = r} core at =
     rw (set-get_or words i 0, set_again roles id r at) core
 
-pub learns : (shape : Shape) (id : ℕ) (role : Role) (place : ℕ) → CanStep shape id role (Load place) (LoadsWord role)
+pub learns : LearnLaw
 learns shape id role place words roles log core there = stays_quiet (nothing id place core there) (refl, refl)

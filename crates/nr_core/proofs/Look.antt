@@ -17,11 +17,9 @@ use Rattle.nr_core.proofs.KeyWords.{names_none, names_one}
 use Rattle.nr_core.proofs.Settle.{ends, key_same, own_ending, settles, keeps_moved, moved_desk, moves, Comes}
 use Rattle.nr_core.specs.Core.{AtDesk, Core, ShowsState, Reads}
 use Rattle.nr_core.specs.Given.{IsGivenCall}
-use Rattle.nr_core.specs.declared.operation.Operation.TheVariants.{Load}
 use Rattle.nr_core.specs.Roles.{held, keeps}
 use Rattle.nr_core.specs.Slots.{bound_of, name_number}
 use Rattle.nr_core.specs.States.{key_of}
-use Rattle.nr_core.specs.Steps.{CanStep, Looks}
 use Rattle.nr_core.specs.Story.{call_of, ending, map_after}
 use Rattle.nr_core.specs.Writer.{ended, looked, moved_to}
 use Rattle.nr_core.specs.declared.calls.Step.{Step}
@@ -34,6 +32,7 @@ use Rattle.nr_core.specs.declared.roles.Role.{Role}
 use Rattle.nr_core.specs.declared.roles.Role.TheVariants.{Writer}
 use Rattle.nr_core.specs.declared.shape.Shape.{Shape}
 use Rattle.nr_core.proofs.Stepping.{writer_makes}
+use Rattle.nr_core.specs.StepLaws.{LookLaw}
 use Rattle.nr_model.specs.declared.states.KeyState.TheVariants as key
 use Rattle.nr_model.specs.declared.calls.Call.TheVariants as model
 use Rattle.nr_model.specs.declared.calls.Reply.TheVariants as reply
@@ -144,9 +143,7 @@ module _ (shape : Shape) (words : List ℕ) (roles : List Role) (log : List Entr
       rw named.0 (begins call (slot_of w) n rows near (t.1 ∙ ap suc (sym named.1)) is)
   look_all call given near z is t = rw (names_none (get_or words _ 0) t.0) (stops call _ z is refl refl)
 
-pub looks : (shape : Shape) (id : ℕ) (desk : Desk) (call : WriterCall) → desk.place ≡ Idle
-    → IsGivenCall (bound_of shape) call → key_of call < shape.keys
-    → CanStep shape id (Writer desk) (Load (key_of call)) (Looks shape desk call)
+pub looks : LookLaw
 looks shape id desk call idle given near words roles log core there =
     let o = looked shape desk call (get_or words (key_of call) 0) in
     writer_makes o.0 (ending (call_of call) o.1) (look_all shape words roles log core id desk there idle call given near

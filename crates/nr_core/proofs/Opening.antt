@@ -1,6 +1,6 @@
 -- At the opening all that stands between steps stands: every key is a hole, every slot is free.
 use Rattle.std.proofs.Common.{List, [], ap, arith, false, get_or, length, refl, replicate, subst, suc, sym, zero, ℕ}
-use Rattle.std.proofs.Common.{◌*◌, ◌++◌, ◌+◌, ◌<◌, ◌∙◌, ◌∷◌, ◌≡◌, ◌≤◌}
+use Rattle.std.proofs.Common.{◌*◌, ◌++◌, ◌+◌, ◌<◌, ◌∙◌, ◌∷◌, ◌≡◌}
 use Rattle.std.proofs.Math.ListN.{get_or-append}
 use Rattle.std.proofs.lemmas.List.{get_or-replicate, length-append, length-replicate, get_or-append-add}
 use lib.ListN.{get_elem?}
@@ -14,7 +14,7 @@ use Rattle.nr_core.proofs.KeyWords.{hole_is}
 use Rattle.nr_core.proofs.StateRoles.{IsCoreState, no_grip}
 use Rattle.nr_core.proofs.Holders.{same_grip}
 use Rattle.nr_core.proofs.Sums.{below-same, below-zero, only-zero}
-use Rattle.nr_core.specs.Core.{AreNumbers, Core, Knows, ShowsState}
+use Rattle.nr_core.specs.Core.{AreNumbers, Knows, ShowsState}
 use Rattle.nr_core.specs.Roles.{held, holds, is_reader, is_writer, keeps, readers_from}
 use Rattle.nr_core.specs.Sizes.{IsShape}
 use Rattle.nr_words.specs.Opening.{repeated}
@@ -26,6 +26,7 @@ use Rattle.nr_core.specs.declared.roles.Grip.TheVariants.{Nothing, On}
 use Rattle.nr_core.specs.declared.roles.Role.{Role}
 use Rattle.nr_core.specs.declared.roles.Role.TheVariants.{Reader, Writer}
 use Rattle.nr_core.specs.declared.shape.Shape.{Shape}
+use Rattle.nr_core.specs.StepLaws.{OpeningLaw}
 use Rattle.nr_core.specs.declared.places.Hold.TheVariants as hold
 use Rattle.nr_model.specs.declared.states.KeyState.TheVariants as key
 
@@ -95,8 +96,7 @@ first_numbers shape = record {
 }
 
 -- the writer, and that many readers
-pub core_opens : (shape : Shape) → IsShape shape → (n : ℕ) → n ≤ shape.readers
-    → Core shape (words_at_opening shape) (Writer (opening_desk shape) ∷ readers_from 0 n) []
+pub core_opens : OpeningLaw
 core_opens shape fits n few =
     let words = words_at_opening shape in
     let slot = shape.first_count ∷ replicate (slot_room shape) 0 in

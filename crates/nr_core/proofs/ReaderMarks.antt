@@ -1,7 +1,7 @@
 -- A reader's steps: it arrives, requests, reads and departs, and its marks go along.
 use Rattle.std.proofs.Common.{Bool, List, [], ap, arith, cond, false, get_or, get_or-set_other, get_or-set_same, inl}
-use Rattle.std.proofs.Common.{inr, refl, set, suc, sym, true, ℕ, ⊎_elim, ◌%◌, ◌++◌, ◌+◌, ◌<◌, ◌^◌, ◌∙◌}
-use Rattle.std.proofs.Common.{◌∷◌, ◌≡◌, ◌≤◌, ◌⊎◌}
+use Rattle.std.proofs.Common.{inr, refl, set, suc, sym, true, ℕ, ⊎_elim, ◌%◌, ◌++◌, ◌+◌, ◌<◌, ◌^◌, ◌∙◌, ◌∷◌, ◌≡◌, ◌≤◌}
+use Rattle.std.proofs.Common.{◌⊎◌}
 use Rattle.std.specs.Prelude.{Some, bit_or, length}
 use lib.ListN.{get_elem?}
 use lib.Seq.{set-get_or}
@@ -17,7 +17,7 @@ use Rattle.nr_words.specs.declared.key_words.TheConstants.{ARRIVE}
 use Rattle.nr_core.proofs.KeyWords.{is_named, name-asked, name-bumped}
 use Rattle.nr_core.proofs.WordPlaces.{content_apart}
 use Rattle.nr_core.specs.Roles.{retirements}
-use Rattle.nr_core.specs.Operations.{becomes, target_of}
+use Rattle.nr_core.specs.Operations.{target_of, operated}
 use Rattle.nr_core.specs.declared.operation.Operation.{Operation}
 use Rattle.nr_core.specs.declared.operation.Operation.TheVariants.{Add, Load, Or}
 use Rattle.nr_core.specs.Slots.{content, departures, name_number}
@@ -80,16 +80,14 @@ module _ {A : Type 0} {role : A → Role} {marks : A → Marks} {shape : Shape} 
       → Marked role marks shape words callers log → get_elem? callers id ≡ some me → {reader : ℕ} {x y : Grip}
       → role me ≡ Reader reader x → {after : Role} {entries : List Entry} → after ≡ Reader reader y
       → ((key : ℕ) → key < shape.keys
-      → name_number
-      (get_or (set words (target_of operation) (becomes operation (get_or words (target_of operation) 0))) key
-      0) ≡ name_number (get_or words key 0)) → QuietEnd log entries → (now : Marks) → now.polls ≡ (marks me).polls
+      → name_number (get_or (operated words operation) key 0) ≡ name_number (get_or words key 0))
+      → QuietEnd log entries → (now : Marks) → now.polls ≡ (marks me).polls
       → ((gripped y ≡ gripped x) × (now.acts ≡ (marks me).acts) × (now.put ≡ (marks me).put))
       ⊎ ((marks me).acts < now.acts)
       → ((j slot : ℕ) (u : A) (desk : Desk) → get_elem? callers j ≡ some u → role u ≡ Writer desk
       → Desked role marks shape words callers log desk (marks u) → gripped y ≡ Some slot
       → Keeps (marks u) slot now.put × (0 < retirements slot desk.retired → gripped x ≡ Some slot))
-      → SameContents shape words
-      (set words (target_of operation) (becomes operation (get_or words (target_of operation) 0)))
+      → SameContents shape words (operated words operation)
       → tells (get_or words (target_of operation) 0) after (log ++ entries) now []
       → Remarked role marks shape words callers log id operation me after entries tells
   reader_step {operation = operation} {words = words} {callers = callers} {log = log} m at {reader = reader} {x = x}
@@ -112,10 +110,9 @@ module _ {A : Type 0} {role : A → Role} {marks : A → Marks} {shape : Shape} 
         news = [];
         since = no_places (Since role marks callers);
         evolves = evolves;
-        marked = λ who is_role is_marks. marked_reader role marks shape words
-            (set words (target_of operation) (becomes operation (get_or words (target_of operation) 0))) callers log
-            (log ++ entries) id me who reader
-            x y at was (is_role ∙ is) (evolves who is_role is_marks) names quiet.0 quiet.1
+        marked = λ who is_role is_marks. marked_reader role marks shape words (operated words operation) callers log
+            (log ++ entries) id me who reader x y at was (is_role ∙ is) (evolves who is_role is_marks) names quiet.0
+            quiet.1
             (λ j slot u desk there writes t e.
             let h = holds j slot u desk there writes t e in
             ((h.0.0 ∙ ap (λ (k : Marks). k.put) (sym is_marks), h.0.1), h.1))

@@ -1,5 +1,5 @@
 -- One more caller, who holds no slot: it knows nothing, and nothing changes for the others.
-use Rattle.std.proofs.Common.{List, [], arith, refl, subst, ℕ, ⊎_elim, ◌++◌, ◌+◌, ◌<◌, ◌∷◌, ◌≡◌, ◌≤◌}
+use Rattle.std.proofs.Common.{List, [], arith, refl, subst, ℕ, ⊎_elim, ◌++◌, ◌+◌, ◌∷◌, ◌≡◌, ◌≤◌}
 use lib.ListN.{get_elem?}
 use mathlib.Core.Option.{some}
 use Rattle.nr_model.specs.Histories.{Entry}
@@ -13,6 +13,7 @@ use Rattle.nr_core.specs.declared.roles.Role.{Role}
 use Rattle.nr_core.specs.declared.roles.Role.TheVariants.{Note, Reader}
 use Rattle.nr_core.specs.declared.shape.Shape.{Shape}
 use Rattle.nr_core.proofs.Frames.{roles_more}
+use Rattle.nr_core.specs.StepLaws.{SeatLaw, NoteLaw}
 
 seated : (shape : Shape) (words : List ℕ) (roles : List Role) (log : List Entry) (role : Role)
     → Core shape words roles log → is_writer role ≡ 0
@@ -30,14 +31,11 @@ seated shape words roles log role core no_writer few no_hold no_keep own =
     (λ (t : role ≡ u). subst (Knows shape words (map_after shape log) (held roles)) t own) (at_snoc roles role u j there))
 
 -- a reader joins, where there is room for one more
-pub seats : (shape : Shape) (words : List ℕ) (roles : List Role) (log : List Entry) (reader : ℕ)
-    → Core shape words roles log → total is_reader roles < shape.readers
-    → Core shape words (roles ++ Reader reader Nothing ∷ []) log
+pub seats : SeatLaw
 seats shape words roles log reader core few =
     seated shape words roles log (Reader reader Nothing) core refl (omega arith) (λ _. refl) (λ _. refl) tt
 
 -- a note is made
-pub notes : (shape : Shape) (words : List ℕ) (roles : List Role) (log : List Entry) → Core shape words roles log
-    → Core shape words (roles ++ Note ∷ []) log
+pub notes : NoteLaw
 notes shape words roles log core =
     seated shape words roles log Note core refl (omega arith) (λ _. refl) (λ _. refl) tt

@@ -34,7 +34,7 @@ use Rattle.nr_core.specs.declared.roles.Role.{Role}
 use Rattle.nr_core.specs.declared.roles.Role.TheVariants.{Writer}
 use Rattle.nr_core.specs.declared.shape.Shape.{Shape}
 use Rattle.nr_core.specs.declared.places.Place.{Place}
-use Rattle.nr_core.specs.Operations.{becomes, going, target_of}
+use Rattle.nr_core.specs.Operations.{going, target_of, operated}
 use Rattle.nr_core.specs.declared.calls.WReply.TheVariants as writer
 
 -- 1 of a slot that was never taken, and what a taking leaves
@@ -122,10 +122,8 @@ module _ {shape : Shape} {words : List ℕ} {roles : List Role} {log : List Entr
   abbrev pub Makes : Place → Type 0
   Makes place =
       desk.place ≡ place →
-      let operation = going shape desk place in
-      let found = get_or words (target_of operation) 0 in
-      let after = went shape desk place found in
-      Core shape (set words (target_of operation) (becomes operation found)) (set roles id (Writer after.0))
+      let after = went shape desk place (get_or words (target_of (going shape desk place)) 0) in
+      Core shape (operated words (going shape desk place)) (set roles id (Writer after.0))
       (log ++ ending_at place after.1)
 
   module _ (place : ℕ) where

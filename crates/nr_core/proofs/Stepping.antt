@@ -4,7 +4,7 @@ use Rattle.nr_model.specs.Histories.{Entry, entries_of}
 use Rattle.nr_model.specs.declared.calls.Call.{Call}
 use Rattle.nr_model.specs.declared.calls.Reply.{Reply}
 use Rattle.nr_core.specs.Core.{Core}
-use Rattle.nr_core.specs.Operations.{becomes, target_of}
+use Rattle.nr_core.specs.Operations.{target_of, operated}
 use Rattle.nr_core.specs.Roles.{is_by, is_reader, is_writer}
 use Rattle.nr_core.specs.Steps.{Stepped, Telling}
 use Rattle.nr_core.specs.Story.{entry}
@@ -20,9 +20,7 @@ abbrev Tells : List ℕ → Operation → Telling → Role → List Entry → Ty
 Tells words operation tells role entries = tells (get_or words (target_of operation) 0) role entries
 
 abbrev CoreWith : Shape → List ℕ → List Role → ℕ → Operation → Role → List Entry → Type 0
-CoreWith shape words roles id operation role =
-    Core shape (set words (target_of operation) (becomes operation (get_or words (target_of operation) 0)))
-    (set roles id role)
+CoreWith shape words roles id operation role = Core shape (operated words operation) (set roles id role)
 
 module _ {shape : Shape} {words : List ℕ} {roles : List Role} {log : List Entry} {id : ℕ} {operation : Operation}
     {tells : Telling} where

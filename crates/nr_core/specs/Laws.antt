@@ -1,9 +1,7 @@
 -- The laws over all lists of events.
 use Rattle.std.specs.Prelude.{◌≡◌, ℕ, ◌+◌, ◌<◌, ◌≤◌, ◌≢◌, ◌⊎◌, ◌==◌, if◌then◌else◌, List, [], ◌∷◌, ◌++◌, length, map}
-use Rattle.std.specs.Prelude.{slice_index, slice_index_or, slice_set, Option, Some, None, Ok}
+use Rattle.std.specs.Prelude.{slice_index, slice_index_or, Option, Some, None, Ok}
 use Rattle.nr_model.specs.declared.rows.Row.{Row}
-use Rattle.nr_model.specs.declared.calls.Reply.TheVariants as reply
-use Rattle.nr_model.specs.declared.calls.Call.TheVariants as model
 use Rattle.nr_model.specs.Rows.{IsRowSet}
 use Rattle.nr_model.specs.Maps.{PartialMap, state_of, number_of, reply_to, filled_count}
 use Rattle.nr_model.specs.Histories.{Entry, IsLegal, entries_of, sends, fills, cancels}
@@ -12,7 +10,6 @@ use Rattle.nr_core.specs.declared.shape.Shape.{Shape}
 use Rattle.nr_core.specs.declared.calls.NoSlot.{NoSlot}
 use Rattle.nr_core.specs.declared.calls.WriterCall.{WriterCall}
 use Rattle.nr_core.specs.declared.calls.WriterCall.TheVariants.{Evict, Cancel}
-use Rattle.nr_core.specs.declared.calls.WReply.TheVariants as writer
 use Rattle.nr_core.specs.declared.calls.Step.TheVariants.{Ended}
 use Rattle.nr_core.specs.declared.places.Hold.TheVariants.{On}
 use Rattle.nr_core.specs.declared.places.Retired.{Retired}
@@ -23,7 +20,7 @@ use Rattle.nr_core.specs.Slots.{bound_of, content, slot_room}
 use Rattle.nr_core.specs.States.{State, Event, Arrive, Read, Depart, Ask, FindAgain, Start, Go, word, hold_of}
 use Rattle.nr_core.specs.States.{number_at}
 use Rattle.nr_core.specs.Refusals.{refusal}
-use Rattle.nr_core.specs.Operations.{target_of, becomes, operation}
+use Rattle.nr_core.specs.Operations.{target_of, operation, operated}
 use Rattle.nr_core.specs.declared.operation.Operation.{Operation}
 use Rattle.nr_core.specs.declared.operation.Operation.TheVariants.{Load}
 use Rattle.nr_core.specs.Machine.{next_state, run, unless, read_answer, start_answer, go_answer}
@@ -31,6 +28,9 @@ use Rattle.nr_core.specs.Story.{Story, Poll, story_of, tell, told, shown, entry,
 use Rattle.nr_core.specs.Sizes.{IsShape}
 use Rattle.nr_core.specs.Given.{IsGivenCall}
 use Rattle.nr_core.specs.Accounts.{Accounted}
+use Rattle.nr_model.specs.declared.calls.Reply.TheVariants as reply
+use Rattle.nr_model.specs.declared.calls.Call.TheVariants as model
+use Rattle.nr_core.specs.declared.calls.WReply.TheVariants as writer
 
 -- the sets that calls bring are row sets
 abbrev pub IsGiven : ℕ → Event → Type 0
@@ -127,7 +127,7 @@ pub record IsJustified (story : Story) (event : Event) (counts : NoSlot) : Type 
 abbrev pub Operates : State → Operation → State → Type 0
 Operates state one after =
     (target_of one < length state.words)
-    × (after.words ≡ slice_set state.words (target_of one) (becomes one (word state (target_of one))))
+    × (after.words ≡ operated state.words one)
     × (after.made ≡ state.made ++ one ∷ [])
 
 -- what one event more does

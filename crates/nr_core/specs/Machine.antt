@@ -5,7 +5,6 @@ use Rattle.nr_core.specs.declared.shape.Shape.{Shape}
 use Rattle.nr_core.specs.declared.calls.WriterCall.{WriterCall}
 use Rattle.nr_core.specs.declared.calls.Refusal.{Refusal}
 use Rattle.nr_core.specs.declared.calls.Arrived.{Arrived}
-use Rattle.nr_core.specs.declared.calls.Arrived.TheVariants as arrived
 use Rattle.nr_core.specs.declared.calls.AskReply.{AskReply}
 use Rattle.nr_core.specs.declared.calls.AskReply.TheVariants.{Send, Waiting, Filled}
 use Rattle.nr_core.specs.declared.calls.Step.{Step}
@@ -17,8 +16,9 @@ use Rattle.nr_core.specs.States.{State, Event, Arrive, Read, Depart, Ask, FindAg
 use Rattle.nr_core.specs.States.{hold_of}
 use Rattle.nr_core.specs.Slots.{names_slot}
 use Rattle.nr_core.specs.Refusals.{refusal}
-use Rattle.nr_core.specs.Operations.{target_of, becomes, operation}
+use Rattle.nr_core.specs.Operations.{target_of, operation, operated}
 use Rattle.nr_core.specs.Writer.{desk_in, looked, step_in, went}
+use Rattle.nr_core.specs.declared.calls.Arrived.TheVariants as arrived
 
 -- what a reader holds after an arrive that found this word
 abbrev pub arrive_hold : ℕ → Hold
@@ -51,9 +51,7 @@ found_by state event = word state (target_of (operation state event))
 abbrev pub moved : State → Event → State
 moved state event = record {
   shape = state.shape;
-  words =
-      slice_set state.words (target_of (operation state event))
-      (becomes (operation state event) (found_by state event));
+  words = operated state.words (operation state event);
   holds = holds_after state event (found_by state event);
   desk = desk_after state event (found_by state event);
   made = state.made ++ operation state event ∷ [];

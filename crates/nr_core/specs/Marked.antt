@@ -11,12 +11,12 @@ use Rattle.nr_core.specs.declared.roles.Grip.{Grip}
 use Rattle.nr_core.specs.declared.roles.Desk.{Desk}
 use Rattle.nr_core.specs.declared.places.Retired.{Retired}
 use Rattle.nr_core.specs.declared.places.Place.{Place}
-use Rattle.nr_core.specs.declared.places.Place.TheVariants.{Idle, Reading, Leaving, Withdrawing, Searching, Putting}
+use Rattle.nr_core.specs.declared.places.Place.TheVariants.{Idle, Searching, Putting}
 use Rattle.nr_core.specs.Sums.{total, only}
 use Rattle.nr_core.specs.Slots.{SlotSpells, name_number, named}
 use Rattle.nr_core.specs.Core.{Core}
 use Rattle.nr_core.specs.Roles.{is_by, retirements}
-use Rattle.nr_core.specs.Operations.{target_of, becomes}
+use Rattle.nr_core.specs.Operations.{target_of, operated}
 use Rattle.nr_core.specs.declared.operation.Operation.{Operation}
 use Rattle.nr_core.specs.Steps.{Telling}
 use Rattle.nr_core.specs.Puts.{put_count, put_number}
@@ -164,9 +164,7 @@ module _ {A : Type 0} (role : A → Role) (marks : A → Marks) where
     pub since : AllSince callers news
     pub evolves : (who : A) → role who ≡ after → marks who ≡ now → Evolves before who
     pub marked : (who : A) → role who ≡ after → marks who ≡ now
-        → Marked shape
-        (slice_set words (target_of operation) (becomes operation (slice_index words (target_of operation))))
-        (slice_set callers id who) (log ++ entries)
+        → Marked shape (operated words operation) (slice_set callers id who) (log ++ entries)
     pub noted : NotesPresent callers (marks before).polls now.polls
     pub told : tells (slice_index words (target_of operation)) after (log ++ entries) now news
 

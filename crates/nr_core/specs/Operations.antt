@@ -8,12 +8,11 @@ use Rattle.nr_core.specs.declared.places.Place.{Place}
 use Rattle.nr_core.specs.declared.places.Place.TheVariants.{Idle, Reading, Leaving, Withdrawing, Searching, Putting}
 use Rattle.nr_core.specs.declared.roles.Desk.{Desk}
 use Rattle.nr_words.specs.declared.key_words.TheConstants.{ARRIVE}
-use Rattle.nr_words.specs.KeyWords.{hole_word}
+use Rattle.nr_words.specs.KeyWords.{hole_word, naming}
 use Rattle.nr_words.specs.SetWords.{encode}
 use Rattle.nr_core.specs.Slots.{content, departures}
 use Rattle.nr_core.specs.States.{Arrive, Ask, Depart, Event, FindAgain, Go, Read, Start, State, hold_of, key_of}
 use Rattle.nr_core.specs.States.{number_at, retired_at, slot_in}
-use Rattle.nr_words.specs.KeyWords.{naming}
 
 -- the word that the operation is on
 abbrev pub target_of : Operation → ℕ
@@ -31,6 +30,10 @@ becomes (Or place bits) found = bit_or found bits
 becomes (Store place word) found = word
 becomes (Swap place word) found = word
 
+-- the words after the operation
+abbrev pub operated : List ℕ → Operation → List ℕ
+operated words one = slice_set words (target_of one) (becomes one (slice_index words (target_of one)))
+
 -- the words, and the operations that were made on them, oldest first
 pub record Memory : Type 0 where
   pub cells : List ℕ
@@ -38,10 +41,7 @@ pub record Memory : Type 0 where
 
 -- one operation more, on one word
 abbrev pub performed : Memory → Operation → Memory
-performed memory one = record {
-  cells = slice_set memory.cells (target_of one) (becomes one (slice_index memory.cells (target_of one)));
-  made = memory.made ++ one ∷ [];
-}
+performed memory one = record { cells = operated memory.cells one; made = memory.made ++ one ∷ [] }
 
 -- the next operation of the writer's call at a stage
 abbrev pub going : Shape → Desk → Place → Operation

@@ -5,9 +5,7 @@ use Rattle.std.specs.Prelude.{false, true, if◌then◌else◌}
 use mathlib.Core.Option.{some}
 use lib.ListN.{get_elem?}
 use Rattle.nr_model.specs.declared.rows.Row.{Row}
-use Rattle.nr_model.specs.declared.calls.Call.TheVariants as model
 use Rattle.nr_model.specs.declared.calls.Reply.{Reply}
-use Rattle.nr_model.specs.declared.calls.Reply.TheVariants as reply
 use Rattle.nr_model.specs.Rows.{IsRowSet}
 use Rattle.nr_model.specs.Histories.{Entry, entries_of}
 use Rattle.nr_core.specs.declared.shape.Shape.{Shape}
@@ -19,7 +17,7 @@ use Rattle.nr_core.specs.declared.roles.Desk.{Desk}
 use Rattle.nr_words.specs.KeyWords.{is_filled, has_ask, same_count, slot_of}
 use Rattle.nr_words.specs.SetWords.{encode}
 use Rattle.nr_core.specs.Slots.{bound_of, name_number, names_slot}
-use Rattle.nr_core.specs.Operations.{target_of, becomes}
+use Rattle.nr_core.specs.Operations.{target_of, operated}
 use Rattle.nr_core.specs.declared.operation.Operation.{Operation}
 use Rattle.nr_core.specs.States.{retired_at}
 use Rattle.nr_core.specs.Writer.{desk_in, looked, moved_to, step_in, taking_retired, went}
@@ -27,6 +25,8 @@ use Rattle.nr_core.specs.declared.places.Place.TheVariants.{Idle}
 use Rattle.nr_core.specs.Story.{entry, call_of, ending, ending_at}
 use Rattle.nr_core.specs.Roles.{is_by, is_writer, is_reader}
 use Rattle.nr_core.specs.Core.{Core}
+use Rattle.nr_model.specs.declared.calls.Call.TheVariants as model
+use Rattle.nr_model.specs.declared.calls.Reply.TheVariants as reply
 
 -- what a step tells, of the word that it found, the caller's role after it and the entries that it added
 abbrev pub Telling : Type 1
@@ -37,9 +37,7 @@ pub record Stepped (shape : Shape) (words : List ℕ) (roles : List Role) (log :
     (operation : Operation) (tells : Telling) : Type 0 where
   pub after : Role
   pub entries : List Entry
-  pub core : Core shape
-      (slice_set words (target_of operation) (becomes operation (slice_index words (target_of operation))))
-      (slice_set roles id after) (log ++ entries)
+  pub core : Core shape (operated words operation) (slice_set roles id after) (log ++ entries)
   -- it is the same caller, of the same kind, and the entries are its own
   pub same : (caller : ℕ) → is_by caller after ≡ is_by caller role
   pub writer : is_writer after ≡ is_writer role
