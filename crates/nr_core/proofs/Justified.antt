@@ -1,6 +1,6 @@
 -- A no-slot is justified.
-use Rattle.std.proofs.Common.{[], List, ap, arith, cond, get_or, length, map, refl, subst, sym, ℕ, ◌*◌}
-use Rattle.std.proofs.Common.{◌++◌, ◌+◌, ◌-◌, ◌∙◌, ◌∷◌, ◌≡◌, ◌≤◌}
+use Rattle.std.proofs.Common.{[], List, ap, arith, cond, get_or, length, map, refl, subst, sym, ℕ, ◌*◌, ◌++◌, ◌+◌, ◌-◌}
+use Rattle.std.proofs.Common.{◌∙◌, ◌∷◌, ◌≡◌, ◌≤◌}
 use Rattle.std.proofs.lemmas.List.{take_all}
 use Rattle.std.specs.Prelude.{None, Ok, Option, Some, nat_le}
 use Rattle.nr_model.specs.Histories.{Entry}

@@ -1,7 +1,7 @@
 -- What callers know of readers stays so: after a step, which may learn more, and when one more caller comes. What a
 -- note tells of readers is so.
-use Rattle.std.proofs.Common.{List, [], ap, inl, inr, refl, set, suc, sym, zero, ℕ, ⊎_elim, ◌++◌, ◌∙◌, ◌∷◌, ◌≡◌}
-use Rattle.std.proofs.Common.{◌≢◌, ◌⊎◌, subst}
+use Rattle.std.proofs.Common.{List, [], ap, inl, inr, refl, set, suc, sym, zero, ℕ, ⊎_elim, ◌++◌, ◌∙◌, ◌∷◌, ◌≡◌, ◌≢◌}
+use Rattle.std.proofs.Common.{◌⊎◌, subst}
 use lib.ListN.{get_elem?}
 use mathlib.Core.Option.{some, some-injective, some-ne-none}
 use Rattle.nr_core.proofs.Sums.{at_set, at_snoc}

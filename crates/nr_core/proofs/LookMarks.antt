@@ -1,7 +1,7 @@
 -- The writer's steps that leave the words: its looks and its reads. A call that ends with no slot there has none
 -- retired either.
-use Rattle.std.proofs.Common.{[], inl, Bool, List, ap, append-nil, arith, false, get_or, length, map, refl}
-use Rattle.std.proofs.Common.{subst, sym, ℕ, ◌++◌, ◌<◌, ◌∙◌, ◌∷◌, ◌≡◌}
+use Rattle.std.proofs.Common.{[], inl, Bool, List, ap, append-nil, arith, false, get_or, length, map, refl, subst, sym}
+use Rattle.std.proofs.Common.{ℕ, ◌++◌, ◌<◌, ◌∙◌, ◌∷◌, ◌≡◌}
 use lib.ListN.{get_elem?}
 use mathlib.Core.Option.{some, some-ne-none}
 use Rattle.nr_model.specs.Histories.{Entry, is_done}

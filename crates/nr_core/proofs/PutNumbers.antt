@@ -1,11 +1,11 @@
 -- Put numbers of a history that grows by an entry.
 use Rattle.std.proofs.Common.{List, [], ap, append-nil, arith, cond, false, nat_eq, ℕ, ◌++◌, ◌+◌, ◌∙◌, ◌∷◌, ◌≡◌, ◌≤◌}
+use Rattle.std.proofs.Common.{subst, sym}
 use Rattle.std.specs.Prelude.{◌&&◌}
 use Rattle.nr_model.specs.Histories.{Entry, is_done}
 use Rattle.nr_model.specs.Maps.{call_key}
 use Rattle.nr_core.proofs.Sums.{total-append}
 use Rattle.nr_core.specs.Puts.{put_count, put_from, put_number, puts_at, puts_set}
-use Rattle.std.proofs.Common.{subst, sym}
 
 put-append : (key next last : ℕ) (es fs : List Entry)
     → put_from key next last (es ++ fs) ≡ put_from key (next + put_count es) (put_from key next last es) fs

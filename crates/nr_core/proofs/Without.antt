@@ -1,7 +1,7 @@
 -- A call that ends with no slot: every slot was taken once, the call would be done, and the polls of this call were of
 -- all the retired slots.
-use Rattle.std.proofs.Common.{List, ap, false, length, nat_eq, refl, sym, ℕ, ◌+◌, ◌-◌, ◌∙◌, ◌≡◌, [], get_or}
-use Rattle.std.proofs.Common.{◌≤◌, subst, ◌*◌, ◌++◌, ◌∷◌}
+use Rattle.std.proofs.Common.{List, ap, false, length, nat_eq, refl, sym, ℕ, ◌+◌, ◌-◌, ◌∙◌, ◌≡◌, [], get_or, ◌≤◌, subst}
+use Rattle.std.proofs.Common.{◌*◌, ◌++◌, ◌∷◌}
 use Rattle.std.proofs.lemmas.Bool.{eqb-true, ltb-false}
 use Rattle.std.specs.Prelude.{nat_lt, Option}
 use Rattle.nr_model.specs.Maps.{reply_at, state_of}

@@ -1,5 +1,5 @@
 -- Slot accounting: the one state that each slot is in, and its counts.
-use Rattle.std.specs.Prelude.{◌≡◌, ℕ, suc, ◌+◌, ◌<◌}
+use Rattle.std.specs.Prelude.{◌≡◌, ℕ, suc, ◌+◌, ◌<◌, length}
 use Rattle.nr_core.specs.declared.places.Hold.{Hold}
 use Rattle.nr_core.specs.declared.places.Hold.TheVariants.{Nothing, On}
 use Rattle.nr_core.specs.Sums.{total, only}
@@ -8,7 +8,6 @@ use Rattle.nr_core.specs.Slots.{name_number, named, unused}
 use Rattle.nr_core.specs.States.{State, word, retired_at}
 use Rattle.nr_core.specs.Roles.{retirements, taken}
 use Rattle.nr_core.specs.Core.{Counts}
-use Rattle.std.specs.Prelude.{length}
 
 -- how many readers hold the slot
 abbrev pub on : ℕ → Hold → ℕ

@@ -4,9 +4,7 @@ use Rattle.std.specs.Prelude.{◌≡◌, ℕ, suc, ◌+◌, ◌*◌, ◌%◌, �
 use mathlib.Core.Option.{some}
 use lib.ListN.{get_elem?}
 use Rattle.nr_model.specs.declared.rows.Row.{Row}
-use Rattle.nr_model.specs.declared.calls.Reply.TheVariants as reply
 use Rattle.nr_model.specs.declared.states.KeyState.{KeyState}
-use Rattle.nr_model.specs.declared.states.KeyState.TheVariants as key
 use Rattle.nr_model.specs.Rows.{IsRowSet}
 use Rattle.nr_model.specs.Maps.{PartialMap, state_of, number_of, reply_at, state_after, last_number}
 use Rattle.nr_model.specs.Histories.{Entry, IsLegal}
@@ -29,6 +27,8 @@ use Rattle.nr_words.specs.Places.{total_of}
 use Rattle.nr_core.specs.Slots.{bound_of, layout, departures, content, name_number, named, SlotSpells}
 use Rattle.nr_core.specs.States.{key_of}
 use Rattle.nr_core.specs.Story.{call_of, map_after, opening_map}
+use Rattle.nr_model.specs.declared.calls.Reply.TheVariants as reply
+use Rattle.nr_model.specs.declared.states.KeyState.TheVariants as key
 
 -- a count of arrivals is the departures and the callers that hold the slot, as far as counts go
 abbrev pub Counts : Shape → List ℕ → (ℕ → ℕ) → ℕ → ℕ → Type 0

@@ -4,16 +4,16 @@
 -- first.
 use Rattle.std.specs.Prelude.{◌≡◌, ℕ, ◌⊎◌, List, [], ◌∷◌, ◌++◌, map, None}
 use Rattle.nr_model.specs.declared.calls.Call.{Call}
-use Rattle.nr_model.specs.declared.calls.Call.TheVariants as model
 use Rattle.nr_model.specs.declared.calls.Reply.{Reply}
 use Rattle.nr_model.specs.Histories.{Entry, entries_of}
 use Rattle.nr_core.specs.declared.shape.Shape.{Shape}
 use Rattle.nr_core.specs.declared.calls.WriterCall.{WriterCall}
-use Rattle.nr_core.specs.States.{State, Event, Arrive, Read, Depart, Ask, FindAgain, Start, Go}
+use Rattle.nr_core.specs.States.{State, Event, Arrive, Ask, FindAgain, Start, Go}
 use Rattle.nr_core.specs.Refusals.{refusal}
 use Rattle.nr_core.specs.Machine.{unless}
 use Rattle.nr_core.specs.Story.{Story, story_of, tell, told, entry, call_of}
 use Rattle.nr_core.specs.Laws.{call_in, caller_of_event}
+use Rattle.nr_model.specs.declared.calls.Call.TheVariants as model
 
 -- the entry that an event adds, if it adds one; and those that events add, one after the other, from a story on
 abbrev pub told_by : Story → Event → List Entry

@@ -11,7 +11,7 @@ use Rattle.nr_core.specs.declared.roles.Grip.{Grip}
 use Rattle.nr_core.specs.declared.roles.Desk.{Desk}
 use Rattle.nr_core.specs.declared.places.Place.{Place}
 use Rattle.nr_core.specs.declared.places.Retired.{Retired}
-use Rattle.nr_core.specs.declared.places.Place.TheVariants.{Idle, Reading, Leaving, Withdrawing, Searching, Putting}
+use Rattle.nr_core.specs.declared.places.Place.TheVariants.{Reading, Leaving, Searching, Putting}
 use Rattle.nr_core.specs.declared.calls.NoSlot.{NoSlot}
 use Rattle.nr_core.specs.declared.calls.Step.{Step}
 use Rattle.nr_core.specs.declared.calls.Step.TheVariants.{Ended}
@@ -19,7 +19,6 @@ use Rattle.nr_words.specs.KeyWords.{is_filled, same_count}
 use Rattle.nr_core.specs.Slots.{name_number, names_slot}
 use Rattle.nr_core.specs.States.{retired_at, key_of}
 use Rattle.nr_core.specs.Writer.{looked, read_on, step_in}
-use Rattle.nr_core.specs.declared.calls.WReply.TheVariants as writer
 use Rattle.nr_core.specs.Puts.{put_count, put_number}
 use Rattle.nr_core.specs.Marks.{Past, Marks, acted, with_look, with_poll, with_polls, with_name, with_reaped}
 use Rattle.nr_core.specs.Marks.{without_name}
@@ -27,6 +26,7 @@ use Rattle.nr_core.specs.PollNotes.{NoRoom, Missed}
 use Rattle.nr_core.specs.Pasts.{Refreshed, Compared}
 use Rattle.nr_core.specs.Marked.{MarkTelling}
 use Rattle.nr_core.specs.Exact.{Lists}
+use Rattle.nr_core.specs.declared.calls.WReply.TheVariants as writer
 
 -- the step ends the call with no slot
 abbrev pub IsNoSlot : Step → Type 0

@@ -1,16 +1,16 @@
 -- What a step of the writer comes to, told without a set.
 use Rattle.std.specs.Prelude.{List, Result, Ok, Err}
 use Rattle.nr_model.specs.declared.rows.Row.{Row}
-use Rattle.nr_model.specs.declared.calls.Reply.TheVariants as reply
 use Rattle.nr_core.specs.declared.calls.Refusal.{Refusal}
 use Rattle.nr_core.specs.declared.calls.Step.{Step}
-use Rattle.nr_core.specs.declared.calls.Step.TheVariants as step
-use Rattle.nr_core.specs.declared.calls.WReply.TheVariants as writer
 use Rattle.nr_core.specs.declared.outcome.Outcome.{Outcome}
 use Rattle.nr_core.specs.declared.outcome.Outcome.TheVariants.{Going, NoSlot, Rows, Hole, Done, NotAsked, Stale}
 use Rattle.nr_core.specs.declared.outcome.Outcome.TheVariants.{Already, Dropped, NoRow, TooMany, Evicted, Nothing}
 use Rattle.nr_core.specs.declared.outcome.Outcome.TheVariants.{Cancelled, Worn}
 use Rattle.nr_core.specs.Writer.{ended}
+use Rattle.nr_model.specs.declared.calls.Reply.TheVariants as reply
+use Rattle.nr_core.specs.declared.calls.Step.TheVariants as step
+use Rattle.nr_core.specs.declared.calls.WReply.TheVariants as writer
 
 -- the answer, where a find found these rows
 abbrev pub step_of : List Row → Outcome → Step

@@ -6,9 +6,9 @@ use Rattle.nr_core.specs.declared.calls.WriterCall.{WriterCall}
 use Rattle.nr_core.specs.declared.places.Place.{Place}
 use Rattle.nr_core.specs.declared.places.Place.TheVariants.{Idle, Reading, Leaving, Withdrawing, Searching, Putting}
 use Rattle.nr_core.specs.declared.places.Stage.{Stage}
-use Rattle.nr_core.specs.declared.places.Stage.TheVariants as stage
 use Rattle.nr_core.specs.declared.machine.Machine.{Machine}
 use Rattle.nr_core.specs.States.{State}
+use Rattle.nr_core.specs.declared.places.Stage.TheVariants as stage
 
 -- the writer's place that the parts make
 abbrev pub placed : Stage → WriterCall → List Row → List ℕ → Place

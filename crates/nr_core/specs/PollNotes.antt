@@ -10,8 +10,8 @@ use Rattle.nr_core.specs.declared.places.Retired.{Retired}
 use Rattle.nr_core.specs.Sums.{total, only}
 use Rattle.nr_core.specs.Roles.{retirements}
 use Rattle.nr_core.specs.Story.{call_of, map_after}
-use Rattle.nr_model.specs.declared.calls.Reply.TheVariants as reply
 use Rattle.nr_core.specs.Marks.{Past}
+use Rattle.nr_model.specs.declared.calls.Reply.TheVariants as reply
 
 -- the polls found every retired slot held, each by another reader
 pub record AllHeld (retired : List Retired) (polls : List Past) : Type 0 where

@@ -6,7 +6,7 @@ use Rattle.nr_core.specs.declared.roles.Grip.{Grip}
 use Rattle.nr_core.specs.declared.roles.Grip.TheVariants.{Nothing, On}
 use Rattle.nr_core.specs.declared.places.Retired.{Retired}
 use Rattle.nr_core.specs.declared.places.Place.{Place}
-use Rattle.nr_core.specs.declared.places.Place.TheVariants.{Idle, Reading, Leaving, Withdrawing, Searching, Putting}
+use Rattle.nr_core.specs.declared.places.Place.TheVariants.{Putting}
 use Rattle.nr_core.specs.Sums.{total, only}
 use Rattle.nr_core.specs.Slots.{unused}
 

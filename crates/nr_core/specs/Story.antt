@@ -2,31 +2,30 @@
 use Rattle.std.specs.Prelude.{ℕ, ◌+◌, ◌==◌, Bool, false, if◌then◌else◌, List, [], ◌∷◌, ◌++◌, fold, Option, Some, None}
 use Rattle.std.specs.Prelude.{option_map}
 use Rattle.nr_model.specs.declared.calls.Call.{Call}
-use Rattle.nr_model.specs.declared.calls.Call.TheVariants as model
 use Rattle.nr_model.specs.declared.calls.Reply.{Reply}
 use Rattle.nr_model.specs.declared.states.KeyState.{KeyState}
-use Rattle.nr_model.specs.declared.states.KeyState.TheVariants as key
-use Rattle.nr_model.specs.Maps.{PartialMap, find_reply, ask_reply}
-use Rattle.nr_model.specs.Maps.{opening}
+use Rattle.nr_model.specs.Maps.{PartialMap, find_reply, ask_reply, opening}
 use Rattle.nr_model.specs.Histories.{Entry, after}
 use Rattle.nr_core.specs.declared.shape.Shape.{Shape}
 use Rattle.nr_core.specs.declared.calls.WriterCall.{WriterCall}
 use Rattle.nr_core.specs.declared.calls.WriterCall.TheVariants.{Find, Fill, Update, Replace, Evict, Cancel}
-use Rattle.nr_core.specs.declared.calls.WReply.TheVariants as writer
 use Rattle.nr_core.specs.declared.calls.Step.{Step}
-use Rattle.nr_core.specs.declared.calls.Step.TheVariants.{Going, Ended}
+use Rattle.nr_core.specs.declared.calls.Step.TheVariants.{Ended}
 use Rattle.nr_core.specs.declared.places.Hold.{Hold}
 use Rattle.nr_core.specs.declared.places.Hold.TheVariants.{Nothing, On}
 use Rattle.nr_core.specs.declared.places.Place.{Place}
 use Rattle.nr_core.specs.declared.places.Place.TheVariants.{Idle, Reading, Leaving, Withdrawing, Searching, Putting}
 use Rattle.nr_words.specs.KeyWords.{is_filled, has_ask, slot_of, same_count}
 use Rattle.nr_core.specs.Slots.{bound_of, slot_content}
-use Rattle.nr_core.specs.States.{Arrive, Ask, Depart, Event, FindAgain, Go, Read, Start, State, hold_of, number_at}
-use Rattle.nr_core.specs.States.{opening_state, retired_at, word}
+use Rattle.nr_core.specs.States.{Arrive, Ask, Event, FindAgain, Go, Start, State, hold_of, number_at, opening_state}
+use Rattle.nr_core.specs.States.{retired_at, word}
 use Rattle.nr_words.specs.SetWords.{decode}
 use Rattle.nr_core.specs.Refusals.{refusal}
 use Rattle.nr_core.specs.Writer.{looked, step_in, went}
 use Rattle.nr_core.specs.Machine.{found_by, names_held, unless, next_state}
+use Rattle.nr_model.specs.declared.calls.Call.TheVariants as model
+use Rattle.nr_model.specs.declared.states.KeyState.TheVariants as key
+use Rattle.nr_core.specs.declared.calls.WReply.TheVariants as writer
 
 -- the map at opening, and the map that a history leaves
 abbrev pub opening_map : Shape → PartialMap

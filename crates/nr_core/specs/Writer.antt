@@ -4,13 +4,11 @@ use Rattle.std.specs.Prelude.{remove, slice_index, slice_set, ℕ, ◌*◌, ◌+
 use Rattle.nr_model.specs.declared.rows.Row.{Row}
 use Rattle.nr_model.specs.declared.batches.ApplyFault.{ApplyFault}
 use Rattle.nr_model.specs.declared.calls.Reply.{Reply}
-use Rattle.nr_model.specs.declared.calls.Reply.TheVariants as reply
 use Rattle.nr_model.specs.Batches.{applied}
 use Rattle.nr_model.specs.Maps.{applied_reply, last_number}
 use Rattle.nr_core.specs.declared.shape.Shape.{Shape}
 use Rattle.nr_core.specs.declared.calls.WriterCall.{WriterCall}
 use Rattle.nr_core.specs.declared.calls.WriterCall.TheVariants.{Find, Fill, Update, Replace, Evict, Cancel}
-use Rattle.nr_core.specs.declared.calls.WReply.TheVariants as writer
 use Rattle.nr_core.specs.declared.calls.Step.{Step}
 use Rattle.nr_core.specs.declared.calls.Step.TheVariants.{Going, Ended}
 use Rattle.nr_core.specs.declared.places.Place.{Place}
@@ -21,6 +19,8 @@ use Rattle.nr_words.specs.KeyWords.{is_filled, has_ask, slot_of, arrivals_of, sa
 use Rattle.nr_core.specs.Slots.{bound_of}
 use Rattle.nr_core.specs.States.{number_at, retired_at}
 use Rattle.nr_words.specs.SetWords.{decode}
+use Rattle.nr_model.specs.declared.calls.Reply.TheVariants as reply
+use Rattle.nr_core.specs.declared.calls.WReply.TheVariants as writer
 
 -- the desk with the writer at another stage of its call
 abbrev pub moved_to : Desk → Place → Desk
