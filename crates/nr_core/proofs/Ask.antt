@@ -69,7 +69,8 @@ asks shape id reader k near words roles log core there =
     (legal-more shape log e core.legal (sym (replies_so shape log (model.Ask k)))) other (λ j. dite (ℕ_discrete j k)
     (λ z. rw z (ap number_of same ∙ asked_number state)) (λ ne. ap number_of (other j ne)))
     (λ j n. dite (ℕ_discrete j k)
-    (λ z. rw z (same ∙ asked_stays state (λ number y. n number (ap (state_of map) z ∙ y)))) (λ ne. other j ne)) (subst (ShowsState shape words x) (sym same)
+    (λ z. rw z (same ∙ asked_stays state (λ number y. n number (ap (state_of map) z ∙ y)))) (λ ne. other j ne))
+    (subst (ShowsState shape words x) (sym same)
     (shows-asked shape words w x state name (omega arith) (omega arith) shown)) tt (λ s _. refl) (λ s e'.
     let more = total-set (holds s) roles id (Reader reader Nothing) (Reader reader Nothing) there in
     omega (arith, core.counts k s near e')))

@@ -99,7 +99,8 @@ module _ {A : Type 0} {role : A → Role} {marks : A → Marks} where
         evolves = λ who _ _. evolves_writer role marks me who desk was;
         marked = λ who is_role is_marks. marked_writer role marks shape words (operated words operation) callers log
             (log ++ entries) id me who desk desk' core at was (is_role ∙ is) m
-            (subst (Desked role marks shape (operated words operation) callers (log ++ entries) desk') (sym is_marks) own);
+            (subst (Desked role marks shape (operated words operation) callers (log ++ entries) desk') (sym is_marks)
+            own);
         noted = noted;
         told = told;
       }

@@ -50,8 +50,8 @@ pub kept_by : (s : ℕ) (roles : List Role) (j : ℕ) (u : Role) → get_elem? r
 kept_by s roles j u at l = let part = term_le (keeps s) roles j u at in omega arith
 
 -- a step on a key's word, after which it may name another slot
-pub key_step : {shape : Shape} {words : List ℕ} {roles : List Role} {log : List Entry} (core : Core shape words roles log)
-    (log' : List Entry) (id : ℕ) {r : Role} (r' : Role) (k x : ℕ)
+pub key_step : {shape : Shape} {words : List ℕ} {roles : List Role} {log : List Entry}
+    (core : Core shape words roles log) (log' : List Entry) (id : ℕ) {r : Role} (r' : Role) (k x : ℕ)
     → k < shape.keys → get_elem? roles id ≡ some r → is_writer r' ≡ is_writer r → is_reader r' ≡ is_reader r
     → IsLegal (opening_map shape) log'
     → ((j : ℕ) → j ≢ k → state_of (map_after shape log') j ≡ state_of (map_after shape log) j)

@@ -61,8 +61,8 @@ puts {shape = shape} {words = words} {roles = roles} {log = log} core id {desk =
     let still : (s : ℕ) → held roles' s ≡ held roles s
     = λ s. let same = total-set (holds s) roles id (Writer desk) (Writer desk') there in omega arith in
     let left : (s : ℕ) → s ≢ slot → Left shape words words' map map (held roles) (held roles') s
-    = λ s ne. left_so shape words words' map map (held roles) (held roles') s (λ j low. cont s j ne low) (dep s) (still s)
-    in
+    = λ s ne.
+    left_so shape words words' map map (held roles) (held roles') s (λ j low. cont s j ne low) (dep s) (still s) in
     let own : AtDesk shape words' map (held roles') desk' = record {
       place = record {
         wants = assumption putting.wants;
@@ -91,6 +91,7 @@ puts {shape = shape} {words = words} {roles = roles} {log = log} core id {desk =
     (λ s _. keeps_moved desk (Putting call rows slot departed index)
     (Putting call rows slot departed (index + 1)) is_at (λ _. refl) s) (λ s j l low is-named. cont s j
     (λ z. let n : 0 < named shape words slot = subst (λ (y : ℕ). 0 < named shape words y) z is-named in omega arith)
-    low) (λ s _ _. omega (arith, dep s, still s)) (no_writer core words' map (held roles') id there (λ s j taken-by l low. cont s j
+    low) (λ s _ _. omega (arith, dep s, still s))
+    (no_writer core words' map (held roles') id there (λ s j taken-by l low. cont s j
     (λ z. let n : 0 < held roles slot = subst (λ (y : ℕ). 0 < held roles y) z taken-by in omega arith) low))
     own)

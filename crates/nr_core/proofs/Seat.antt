@@ -28,7 +28,8 @@ seated shape words roles log role core no_writer few no_hold no_keep own =
     (omega (arith, core.one, total-append is_writer roles (role ∷ [])))
     (omega (arith, few, total-append is_reader roles (role ∷ [])))
     (λ j u there. ⊎_elim (λ (t : get_elem? roles j ≡ some u). core.knows j u t)
-    (λ (t : role ≡ u). subst (Knows shape words (map_after shape log) (held roles)) t own) (at_snoc roles role u j there))
+    (λ (t : role ≡ u). subst (Knows shape words (map_after shape log) (held roles)) t own)
+    (at_snoc roles role u j there))
 
 -- a reader joins, where there is room for one more
 pub seats : SeatLaw
