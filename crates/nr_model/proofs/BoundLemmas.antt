@@ -1,6 +1,5 @@
 -- Each key's rows are a row set within the bound, after whatever calls.
-use Rattle.std.proofs.Common.{◌≡◌, ℕ, List, Result, Ok, Err, subst}
-use Rattle.std.proofs.Common.{refl, sym, arith}
+use Rattle.std.proofs.Common.{◌≡◌, ℕ, List, Result, Ok, Err, subst, refl, sym, arith}
 use Rattle.std.proofs.lemmas.Bool.Decides.{nat_tests}
 use Rattle.std.proofs.lemmas.List.{length-replicate}
 use Rattle.nr_model.specs.declared.rows.Row.{Row}
@@ -19,9 +18,8 @@ use Rattle.nr_model.proofs.LawLemmas.{batch_moves_rows_lem}
 
 -- the rows of a filled key are a row set within the bound
 abbrev HasRowSet : ℕ → KeyState → Type 0
-HasRowSet bound (Hole n) = Unit {0}
-HasRowSet bound (Asked n) = Unit {0}
 HasRowSet bound (Rows n rows) = IsRowSet bound rows
+HasRowSet bound other = Unit {0}
 
 update_has : (bound : ℕ) (rows : List Row) (batch : List Delta) (left : Result (List Row) ApplyFault)
     → applied bound rows batch ≡ left → IsRowSet bound rows → IsRowSet bound (rows_or left rows)

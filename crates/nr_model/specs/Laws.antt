@@ -3,16 +3,16 @@ use Rattle.std.specs.Prelude.{ℕ, ◌≡◌, ◌+◌, ◌<◌, ◌≤◌, ◌�
 use Rattle.std.specs.List.{All}
 use Rattle.nr_model.specs.declared.rows.Row.{Row}
 use Rattle.nr_model.specs.declared.batches.Delta.{Delta}
-use Rattle.nr_model.specs.declared.batches.ApplyFault.TheVariants as fault
 use Rattle.nr_model.specs.Rows.{is_ascending, in_order, count_of, IsRowSet}
 use Rattle.nr_model.specs.Batches.{applied, positive_rows, negative_rows}
 use Rattle.nr_model.specs.declared.calls.Call.{Call}
-use Rattle.nr_model.specs.declared.calls.Call.TheVariants.{Find, Ask, Fill, Update, Replace, Evict, Cancel}
-use Rattle.nr_model.specs.declared.calls.Reply.TheVariants as reply
+use Rattle.nr_model.specs.declared.calls.Call.TheVariants.{Ask, Fill, Replace}
 use Rattle.nr_model.specs.declared.states.KeyState.{KeyState}
-use Rattle.nr_model.specs.declared.states.KeyState.TheVariants.{Hole, Asked, Rows}
+use Rattle.nr_model.specs.declared.states.KeyState.TheVariants.{Asked, Rows}
 use Rattle.nr_model.specs.Maps.{PartialMap, last_number, opening, state_of, number_of, reply_to, next}
 use Rattle.nr_model.specs.Histories.{Entry, after, IsLegal, sends, fills, cancels}
+use Rattle.nr_model.specs.declared.batches.ApplyFault.TheVariants as fault
+use Rattle.nr_model.specs.declared.calls.Reply.TheVariants as reply
 
 -- a list in order has the same rows as before, ascending
 abbrev pub OrderKeepsRows : Type 0
@@ -66,9 +66,8 @@ LegalBegins =
 
 -- 1 where the key is asked
 abbrev pub pending : KeyState → ℕ
-pending (Hole n) = 0
 pending (Asked n) = 1
-pending (Rows n rows) = 0
+pending other = 0
 
 -- each request that was sent was filled or cancelled once, but the one that is pending
 abbrev pub SendsAreAnswered : Type 0
@@ -103,13 +102,9 @@ AnswersFitTheirRequests =
 
 -- the set that a call brings is a row set within the bound
 abbrev pub BringsRowSet : ℕ → Call → Type 0
-BringsRowSet bound (Find key) = Unit {0}
-BringsRowSet bound (Ask key) = Unit {0}
 BringsRowSet bound (Fill key number rows) = IsRowSet bound rows
-BringsRowSet bound (Update key batch) = Unit {0}
 BringsRowSet bound (Replace key rows) = IsRowSet bound rows
-BringsRowSet bound (Evict key) = Unit {0}
-BringsRowSet bound (Cancel key) = Unit {0}
+BringsRowSet bound other = Unit {0}
 
 -- whatever is called, each key's rows are a row set within the bound, where each set that is brought is one
 abbrev pub RowsStayWithinBound : Type 0

@@ -16,9 +16,8 @@ state_in (head.Rows n len) run = Rows n (take len run)
 
 -- the rows in use are in the run, and ascend
 abbrev pub IsKeptRun : Head → List Row → Type 0
-IsKeptRun (head.Hole n) run = Unit {0}
-IsKeptRun (head.Asked n) run = Unit {0}
 IsKeptRun (head.Rows n len) run = (len ≤ length run) × IsTrue (is_ascending (take len run))
+IsKeptRun other run = Unit {0}
 
 -- the states of all keys, whose runs of that many cells follow each other
 abbrev pub states_in : ℕ → List Head → List Row → List KeyState

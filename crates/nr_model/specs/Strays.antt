@@ -14,12 +14,9 @@ keyed (state ∷ states) (put ∷ puts) = if is_filled_key state then put ∷ ke
 abbrev pub count_of_put : List ℕ → ℕ → ℕ
 count_of_put puts put = count_by (λ other. other == put) puts
 
--- one, where a count is 0, and where it is not
+-- one, where a count is 0
 abbrev pub one_if_none : ℕ → ℕ
 one_if_none count = if count == 0 then 1 else 0
-
-abbrev pub one_if_some : ℕ → ℕ
-one_if_some count = if count == 0 then 0 else 1
 
 -- how many different numbers are pinned that no key has
 abbrev pub strays : List ℕ → List ℕ → ℕ

@@ -18,8 +18,7 @@ same_in_block layout s i t j near far e = same_from_place s i t j (slot_words la
 
 pub places_differ_lem : PlacesDiffer
 places_differ_lem layout (KeyWord key) (KeyWord other) h k e = ap KeyWord e
-places_differ_lem layout (KeyWord key) (Departures slot) h k e = absurd (omega arith)
-places_differ_lem layout (KeyWord key) (Content slot index) h k e = absurd (omega arith)
+places_differ_lem layout (KeyWord key) other h k e = absurd (omega arith)
 places_differ_lem layout (Departures slot) (KeyWord key) h k e = absurd (omega arith)
 places_differ_lem layout (Departures slot) (Departures other) h k e =
     let same = same_in_block layout slot 0 other 0 (omega arith) (omega arith) (omega arith) in

@@ -99,11 +99,6 @@ from_spells words rows spelled =
     sym (take-append-drop (length (encode rows)) words)
     ∙ ap (λ front. front ++ drop (length (encode rows)) words) spelled
 
-pub length-rows_of : (words : List ℕ) → content_words (row_count words) ≤ length words
-    → length (rows_of words) ≡ row_count words
-length-rows_of [] room = absurd (omega arith)
-length-rows_of (count ∷ words) room = length-rows_in count words (omega arith)
-
 pub spells_rows_of : (words : List ℕ) → content_words (row_count words) ≤ length words → Spells words (rows_of words)
 spells_rows_of [] room = absurd (omega arith)
 spells_rows_of (count ∷ words) room =
