@@ -33,50 +33,41 @@ use Rattle.nr_board.specs.NamedRows.{rows_of_state}
 -- a call that ends is an entry of the writer's
 pub writer_entries : (shape : Shape) (call : Call) (step : Step) → call_key call < shape.keys
     → BringsRowSet shape.rows call → AreCallers shape (ending call step)
-writer_entries shape call Going near brings = tt
 writer_entries shape call (Ended (writer.Reply answer)) near brings = ((near, inl (refl, brings)), tt)
-writer_entries shape call (Ended (writer.NoSlot counts)) near brings = tt
+writer_entries shape call other near brings = tt
 
 pub given_brings : (bound : ℕ) (call : WriterCall) → IsGivenCall bound call → BringsRowSet bound (call_of call)
-given_brings bound (Find key) given = tt
 given_brings bound (Fill key number rows) given = given
-given_brings bound (Update key batch) given = tt
 given_brings bound (Replace key rows) given = given
-given_brings bound (Evict key) given = tt
-given_brings bound (Cancel key) given = tt
+given_brings bound other given = tt
 
 -- what a done fill leaves at its key is the set that it brings
 fill_leaves : (bound key number : ℕ) (new rows : List Row) (state : KeyState)
     → reply_at bound (model.Fill key number new) state ≡ reply.Done
     → state_after bound (model.Fill key number new) state ≡ states.Rows (number_of state) rows → new ≡ rows
-fill_leaves bound key number new rows (states.Hole n) done leaves = absurd (cc)
 fill_leaves bound key number new rows (states.Asked n) done leaves = of_test (n == number) leaves
   where
     of_test : (same : Bool) → (if same then states.Rows n new else states.Asked n) ≡ states.Rows n rows → new ≡ rows
     of_test true is = ap rows_of_state is
     of_test false is = absurd (cc)
-fill_leaves bound key number new rows (states.Rows n had) done leaves = absurd (cc)
+fill_leaves bound key number new rows other done leaves = absurd (cc)
 
 -- and so of a replacement
 replace_leaves : (new rows : List Row) (state : KeyState) → replace_reply state ≡ reply.Done
     → replaced new state ≡ states.Rows (number_of state) rows → new ≡ rows
-replace_leaves new rows (states.Hole n) done leaves = absurd (cc)
-replace_leaves new rows (states.Asked n) done leaves = absurd (cc)
 replace_leaves new rows (states.Rows n had) done leaves = ap rows_of_state leaves
+replace_leaves new rows other done leaves = absurd (cc)
 
 pub wants_brings : (shape : Shape) (words : List ℕ) (map : PartialMap) (hold : ℕ → ℕ) (call : WriterCall)
     (rows : List Row)
     → Wants shape words map hold call rows → BringsRowSet shape.rows (call_of call)
-wants_brings shape words map hold (Find key) rows wants = tt
 wants_brings shape words map hold (Fill key number new) rows wants =
     subst (IsRowSet shape.rows)
     (sym (fill_leaves (bound_of shape) key number new rows (state_of map key) wants.done wants.leaves))
     wants.row_set
-wants_brings shape words map hold (Update key batch) rows wants = tt
 wants_brings shape words map hold (Replace key new) rows wants =
     subst (IsRowSet shape.rows) (sym (replace_leaves new rows (state_of map key) wants.done wants.leaves)) wants.row_set
-wants_brings shape words map hold (Evict key) rows wants = tt
-wants_brings shape words map hold (Cancel key) rows wants = tt
+wants_brings shape words map hold other rows wants = tt
 
 -- a call that brings its set ends with no read
 quiet_read : (shape : Shape) (desk : Desk) (call : WriterCall) (slot : ℕ) (got : List ℕ)

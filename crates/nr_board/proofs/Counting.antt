@@ -11,13 +11,14 @@ use lib.ListN.{get_elem?}
 use lib.Seq.{set-get_or}
 use Rattle.nr_words.specs.Places.{total_of}
 use Rattle.atomic_table.proofs.Lists.{set_else}
-use Rattle.nr_core.proofs.Sums.{at_set, at_snoc, here_after, total-append, total-set}
+use Rattle.nr_core.proofs.Sums.{here_after, total-append, total-set}
 use Rattle.nr_core.proofs.WordPlaces.{departures_inside, same_departures}
 use Rattle.nr_core.specs.Roles.{holds, is_by}
 use Rattle.nr_core.specs.Slots.{departures, layout}
 use Rattle.nr_core.specs.declared.shape.Shape.{Shape}
 use Rattle.nr_board.specs.Announcing.{Announces, Counted, HasNoReader, IsNoCount, lends, lent, says_at}
 use Rattle.nr_core.proofs.ListPlaces.{at_left}
+use Rattle.nr_board.proofs.OneView.{at_any, at_more}
 use Rattle.nr_board.specs.Views.{View}
 
 -- the holds by words, where one token has another view and holds by its word as before
@@ -124,31 +125,21 @@ pub announces_on : (shape : Shape) (announcers : ℕ) (words after : List ℕ) (
     → Announces shape announcers after (set views id next)
 announces_on shape announcers words after views id view next at same says lend behind wide t = record {
   space = let space = t.space in omega arith;
-  says = λ j own u there his low. behind own low ∙ ⊎_elim
-      (λ (q : (j ≡ id) × (next ≡ u)). t.says id own view at
-      (sym (same (suc own)) ∙ (ap (λ (v : View). is_by (suc own) v.role) q.1 ∙ his)) low
-      ∙ (sym says ∙ ap (λ (v : View). v.says) q.1))
-      (λ (q : (j ≢ id) × (get_elem? views j ≡ some u)). t.says j own u q.1 his low) (at_set views id j next u there);
-  wordless = λ j u there none. ⊎_elim
-      (λ (q : (j ≡ id) × (next ≡ u)). ap (λ (v : View). v.says) (sym q.1)
-      ∙ (says
-      ∙ t.wordless id view at
-      (λ own low. sym (same (suc own)) ∙ (ap (λ (v : View). is_by (suc own) v.role) q.1 ∙ none own low))))
-      (λ (q : (j ≢ id) × (get_elem? views j ≡ some u)). t.wordless j u q.1 none) (at_set views id j next u there);
-  holds_it = λ j slot u there loud grips. ⊎_elim
-      (λ (q : (j ≡ id) × (next ≡ u)). ap (λ (v : View). v.says) (sym q.1) ∙ (says ∙ t.holds_it id slot view at
-      (let e = ap (λ (v : View). v.says) q.1 in omega arith)
-      (let r = ap (λ (v : View). holds slot v.role) q.1 in
-      loud_holds slot view next says (let e = ap (λ (v : View). v.says) q.1 in omega arith) (lend slot)
-      (omega arith))))
-      (λ (q : (j ≢ id) × (get_elem? views j ≡ some u)). t.holds_it j slot u q.1 loud grips)
-      (at_set views id j next u there);
+  says = λ j own u there his low. behind own low
+      ∙ at_any {P = λ _ v. is_by (suc own) v.role ≡ true → get_or words (says_at shape own) 0 ≡ v.says} views id next
+      (λ mine. t.says id own view at (sym (same (suc own)) ∙ mine) low ∙ sym says)
+      (λ i v _ here its. t.says i own v here its low) j u there his;
+  wordless =
+      at_any views id next (λ none. says ∙ t.wordless id view at (λ own low. sym (same (suc own)) ∙ none own low))
+      (λ j u _. t.wordless j u);
+  holds_it = λ j slot u. at_any {P = λ _ v. 0 < v.says → 0 < holds slot v.role → v.says ≡ suc slot} views id next
+      (λ loud grips. says
+      ∙ t.holds_it id slot view at (omega arith)
+      (loud_holds slot view next says (omega arith) (lend slot) grips))
+      (λ i v _. t.holds_it i slot v) j u;
   unsaid = λ own none low. behind own low ∙ t.unsaid own (no_reader_before views id view next at same own none) low;
 }
   where
-    loud_at : (n : ℕ) → 0 < n → nat_lt 0 n ≡ true
-    loud_at n l = lt-ltb 0 n l
-
     loud_holds : (slot : ℕ) (view next : View) → next.says ≡ view.says → 0 < view.says
         → lends slot next ≡ lends slot view → 0 < holds slot next.role → 0 < holds slot view.role
     loud_holds slot view next says loud lend grips = grind arith
@@ -165,14 +156,11 @@ pub announces_more : (shape : Shape) (announcers : ℕ) (words : List ℕ) (view
     → Announces shape announcers words views → Announces shape announcers words (views ++ next ∷ [])
 announces_more shape announcers words views next silent new t = record {
   space = t.space;
-  says = λ j own u there his low. ⊎_elim (λ (q : get_elem? views j ≡ some u). t.says j own u q his low)
-      (λ (q : next ≡ u). t.unsaid own (new own (ap (λ (v : View). is_by (suc own) v.role) q ∙ his)) low
-      ∙ (sym silent ∙ ap (λ (v : View). v.says) q))
-      (at_snoc views next u j there);
-  wordless = λ j u there none. ⊎_elim (λ (q : get_elem? views j ≡ some u). t.wordless j u q none)
-      (λ (q : next ≡ u). ap (λ (v : View). v.says) (sym q) ∙ silent) (at_snoc views next u j there);
-  holds_it = λ j slot u there loud grips. ⊎_elim (λ (q : get_elem? views j ≡ some u). t.holds_it j slot u q loud grips)
-      (λ (q : next ≡ u). absurd (let none : u.says ≡ 0 = ap (λ (v : View). v.says) (sym q) ∙ silent in omega arith))
-      (at_snoc views next u j there);
+  says = λ j own u. at_more {P = λ _ v. is_by (suc own) v.role ≡ true → own < announcers
+      → get_or words (says_at shape own) 0 ≡ v.says} views next
+      (λ _ his low. t.unsaid own (new own his) low ∙ sym silent) (λ i v. t.says i own v) j u;
+  wordless = at_more views next (λ _ _. silent) t.wordless;
+  holds_it = λ j slot u. at_more {P = λ _ v. 0 < v.says → 0 < holds slot v.role → v.says ≡ suc slot} views next
+      (λ _ loud _. absurd (omega arith)) (λ i v. t.holds_it i slot v) j u;
   unsaid = λ own none low. t.unsaid own (λ j u there. none j u (at_left views (next ∷ []) j u there)) low;
 }

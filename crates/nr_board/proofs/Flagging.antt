@@ -88,7 +88,7 @@ pub flags_retire : (table : Table) (retired last : List Retired) (heard now : Li
     → ((slot : ℕ) → retirements slot last ≡ 0 → retirements slot retired ≡ 0) → IsFlagged table last now flags
 flags_retire table retired last heard now flags flagged is fewer some_words =
     let before = flagged some_words in
-    subst (λ (l : List ℕ). Flagged table last l flags) (sym is)
+    rw is
     (record {
       wide = before.wide;
       whole = before.whole;

@@ -118,26 +118,7 @@ compares_so writer reader heard told desk number grip writes reads still first s
 -- what was learnt by other counts of steps
 recounted : (steps sum before after : ℕ) (old new : Caller) → new.steps ≡ old.steps + sum
     → Learns steps (record old { steps = before }) (record new { steps = after }) → Learns sum old new
-recounted steps sum before after old new count learns = record {
-  table = learns.table;
-  number = learns.number;
-  seen = learns.seen;
-  mine = learns.mine;
-  legal = learns.legal;
-  own = learns.own;
-  callers = learns.callers;
-  steps_made = count;
-  fresh = learns.fresh;
-  retired = learns.retired;
-  numbers = learns.numbers;
-  holds = learns.holds;
-  says = learns.says;
-  marks = learns.marks;
-  heard = learns.heard;
-  loaded_ahead = learns.loaded_ahead;
-  news = learns.news;
-  pasts = learns.pasts;
-}
+recounted steps sum before after old new count learns = search (learns, count)
 
 -- a seat that made a note is a token that made a step
 pub noting_token : (seat noting : MapSeat) → noting.table_id ≡ seat.table_id

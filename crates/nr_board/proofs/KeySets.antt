@@ -24,11 +24,7 @@ reading_leaves : (bound : ℕ) (call : Call) (number : ℕ) (rows : List Row) �
     → state_after bound call (states.Rows number rows) ≡ states.Rows number rows
 reading_leaves bound (model.Find key) number rows reads = refl
 reading_leaves bound (model.Ask key) number rows reads = refl
-reading_leaves bound (model.Fill key other new) number rows reads = absurd (cc)
-reading_leaves bound (model.Update key batch) number rows reads = absurd (cc)
-reading_leaves bound (model.Replace key new) number rows reads = absurd (cc)
-reading_leaves bound (model.Evict key) number rows reads = absurd (cc)
-reading_leaves bound (model.Cancel key) number rows reads = absurd (cc)
+reading_leaves bound other number rows reads = absurd (cc)
 
 -- an entry of a reader, where none is the writer's
 reads_first : (shape : Shape) (e : Entry) (log : List Entry) → IsCallers shape e → entries_of (e ∷ log) 0 ≡ []

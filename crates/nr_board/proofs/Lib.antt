@@ -5,6 +5,7 @@ pub mod HeldPolls
 pub mod HeldSlots
 pub mod Lift
 pub mod Entries
+pub mod OneView
 pub mod Moves
 pub mod ReaderSteps
 pub mod WordSteps

@@ -9,7 +9,7 @@ use Rattle.atomic_table.specs.Table.{State, keeps, stepped, Allows}
 use Rattle.atomic_table.proofs.Lists.{at_map}
 use Rattle.nr_model.specs.Histories.{Entry, entries_of}
 use Rattle.nr_core.proofs.Histories.{of-append}
-use Rattle.nr_core.proofs.Sums.{total-set, term_le, terms_le, at_set}
+use Rattle.nr_core.proofs.Sums.{total-set, term_le, terms_le}
 use Rattle.nr_core.specs.Core.{Core}
 use Rattle.nr_core.specs.Roles.{holds, is_by, is_reader, is_writer}
 use Rattle.nr_core.specs.Operations.{becomes, target_of}
@@ -22,6 +22,7 @@ use Rattle.nr_core.proofs.Knowing.{knowing_step}
 use Rattle.nr_core.specs.Marked.{AllSince, CanMark, KnowsMarks, MarkTelling, Remarked}
 use Rattle.nr_core.specs.Marks.{Past}
 use Rattle.nr_board.proofs.Entries.{callers_both}
+use Rattle.nr_board.proofs.OneView.{at_any}
 use Rattle.nr_board.specs.Entries.{AreCallers}
 use Rattle.nr_board.specs.Rule.{Fits, Kept, counts, marks_of, pasts_of, role_of, told_pasts_of}
 use Rattle.nr_board.specs.Views.{View}
@@ -105,21 +106,17 @@ allowed shape slots id view operation carried then can state kept wide at small 
     (made.0, keeps, tt, made.1, made.2)
 
 module _ (shape : Shape) (id : ℕ) (view : View) (operation : Operation) (tells : Telling) (notes : MarkTelling) where
-  abbrev Step : (state : Table) → Kept shape state → Type 0
+  abbrev pub Step : (state : Table) → Kept shape state → Type 0
   Step state kept = Stepped shape kept.counted (map role_of state.views) kept.log id view.role operation tells
 
   -- its marks after the step
-  abbrev pub Marks : (state : Table) (kept : Kept shape state)
-      → Stepped shape kept.counted (map role_of state.views) kept.log id view.role operation tells → Type 0
+  abbrev pub Marks : (state : Table) (kept : Kept shape state) → Step state kept → Type 0
   Marks state kept step =
       Remarked role_of marks_of shape kept.counted state.views kept.log id operation view step.after step.entries notes
 
   -- the token's view goes along with the step, and fits the history
-  pub record Follows (state : Table) (kept : Kept shape state)
-      (step : Stepped shape kept.counted (map role_of state.views) kept.log id view.role operation tells)
-      (marked : Remarked role_of marks_of shape kept.counted state.views kept.log id operation view step.after
-      step.entries notes)
-      (next : View) : Type 0 where
+  pub record Follows (state : Table) (kept : Kept shape state) (step : Step state kept)
+      (marked : Marks state kept step) (next : View) : Type 0 where
     pub role : next.role ≡ step.after
     pub made : next.made ≡ view.made
     pub announcers : next.announcers ≡ view.announcers
@@ -130,11 +127,8 @@ module _ (shape : Shape) (id : ℕ) (view : View) (operation : Operation) (tells
     pub callers : AreCallers shape step.entries
 
   -- such a view, which says what it said and tells what it should
-  pub record Choice (state : Table) (kept : Kept shape state)
-      (step : Stepped shape kept.counted (map role_of state.views) kept.log id view.role operation tells)
-      (marked : Remarked role_of marks_of shape kept.counted state.views kept.log id operation view step.after
-      step.entries notes)
-      (then : View → Type 0) : Type 0 where
+  pub record Choice (state : Table) (kept : Kept shape state) (step : Step state kept)
+      (marked : Marks state kept step) (then : View → Type 0) : Type 0 where
     pub next : View
     pub follows : Follows state kept step marked next
     pub says : next.says ≡ view.says
@@ -197,26 +191,21 @@ module _ (shape : Shape) (id : ℕ) (view : View) (operation : Operation) (tells
         counted = words_after operation kept.counted;
         counts_words = seen;
         announcers = kept.announcers;
-        told_of = λ j u e calls. ⊎_elim
-            (λ (t : (j ≡ id) × (next ≡ u)). ap (λ (y : View). y.announcers) (sym t.1) ∙ follows.announcers
+        told_of =
+            at_any views id next
+            (λ calls. follows.announcers
             ∙ kept.told_of id view at
-            (let one = ap (λ (y : View). is_writer y.role + is_reader y.role) t.1 in
-            let same = ap (λ r. is_writer r + is_reader r) follows.role in
-            let writes = step.writer in
-            let reads = step.reader in
-            omega arith))
-            (λ (t : (j ≢ id) × (get_elem? views j ≡ some u)). kept.told_of j u t.1 calls) (at_set views id j next u e);
+            (omega (arith, ap (λ r. is_writer r + is_reader r) follows.role, step.writer, step.reader)))
+            (λ j u _. kept.told_of j u);
         announced = announced;
         hears = heard;
         core =
             subst (λ (rs : List Role). Core shape (words_after operation kept.counted) rs log') (sym roles) step.core;
-        fits = λ j u e. ⊎_elim
-            (λ (t : (j ≡ id) × (next ≡ u)). subst (Fits shape log') t.1 follows.fits)
-            (λ (t : (j ≢ id) × (get_elem? views j ≡ some u)). other_fits shape kept.log step.entries u
-            (kept.fits j u t.1)
+        fits =
+            at_any views id next follows.fits
+            (λ j u ne there. other_fits shape kept.log step.entries u (kept.fits j u there)
             (λ caller his. step.own caller
-            ∙ ap (λ y. cond y step.entries []) (apart shape state kept id j view u caller at t.1 t.0 his)))
-            (at_set views id j next u e);
+            ∙ ap (λ y. cond y step.entries []) (apart shape state kept id j view u caller at there ne his)));
         callers = callers_both shape kept.log step.entries kept.callers follows.callers;
         once = λ caller. let o = kept.once caller in omega (arith, tally caller);
         made = kept.made;
@@ -244,13 +233,11 @@ module _ (shape : Shape) (id : ℕ) (view : View) (operation : Operation) (tells
         marked = marked.marked next follows.role follows.marks;
         pasts = known.0;
         told_pasts = known.1;
-        maker = λ j u e writes. ⊎_elim
-            (λ (t : (j ≡ id) × (next ≡ u)). ap (λ (y : View). y.made) (sym t.1) ∙ follows.made
-            ∙ kept.maker id view at
-            (sym step.writer
-            ∙ (ap is_writer (sym follows.role) ∙ (ap (λ (y : View). is_writer y.role) t.1 ∙ writes))))
-            (λ (t : (j ≢ id) × (get_elem? views j ≡ some u)). kept.maker j u t.1 writes)
-            (at_set views id j next u e);
+        maker =
+            at_any views id next
+            (λ writes. follows.made
+            ∙ kept.maker id view at (sym step.writer ∙ ap is_writer (sym follows.role) ∙ writes))
+            (λ j u _. kept.maker j u);
       }
 
   -- what the token says and holds by its word being as before, so do the words after the same operation

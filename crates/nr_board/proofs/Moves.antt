@@ -26,40 +26,19 @@ use Rattle.nr_core.specs.Story.{opening_map}
 
 -- the view after a step that learns the history so far and adds entries; after one that learns nothing
 abbrev pub learned : View → Role → List Entry → List Entry → Marks → List Past → View
-learned view after seen entries marks news = record {
+learned view after seen entries marks news = record view {
   role = after;
-  shape = view.shape;
-  announcers = view.announcers;
-  made = view.made;
   seen = seen;
-  told = view.told;
   mine = view.mine ++ entries;
   steps = view.steps + 1;
   marks = marks;
   pasts = news ++ view.pasts;
-  told_pasts = view.told_pasts;
-  says = view.says;
   heard = heard_after view.role view.heard;
-  loaded_ahead = view.loaded_ahead;
 }
 
 abbrev pub waited : View → Role → Marks → List Past → View
-waited view after marks news = record {
-  role = after;
-  shape = view.shape;
-  announcers = view.announcers;
-  made = view.made;
-  seen = view.seen;
-  told = view.told;
-  mine = view.mine;
-  steps = view.steps + 1;
-  marks = marks;
-  pasts = news ++ view.pasts;
-  told_pasts = view.told_pasts;
-  says = view.says;
-  heard = view.heard;
-  loaded_ahead = view.loaded_ahead;
-}
+waited view after marks news =
+    record view { role = after; steps = view.steps + 1; marks = marks; pasts = news ++ view.pasts }
 
 -- after the writer's step a key names what it did, or a slot of which nothing is heard
 abbrev pub NamesGo : View → Marks → Type 0
@@ -155,16 +134,7 @@ module _ (shape : Shape) (log : List Entry) (view : View) (fits : Fits shape log
     }
 
     pub waited_waits : (marks : Marks) (news : List Past) → news ≡ [] → Waits view (waited view after marks news)
-    waited_waits marks news no_news id =
-        record {
-          table = refl;
-          number = number;
-          seen = refl;
-          mine = refl;
-          steps_made = refl;
-          pasts = ap (λ (l : List Past). l ++ view.pasts) no_news;
-          loaded_ahead = refl;
-        }
+    waited_waits marks news no_news id = assumption (ap (λ (l : List Past). l ++ view.pasts) no_news)
 
 -- The two ways in which a step of the core becomes one of the token.
 module
@@ -180,18 +150,10 @@ module
   learned_next = learned view step.after (kept.log ++ step.entries) step.entries marked.now marked.news
 
   pub learned_follows : Follows shape id view operation tells notes state kept step marked learned_next
-  learned_follows = record {
-    role = refl;
-    made = refl;
-    announcers = refl;
-    marks = refl;
-    pasts = refl;
-    told_pasts = refl;
-    fits =
-        learned_fits shape kept.log view (kept.fits id view at) step.after step.same step.writer step.reader
-        step.entries marked.now marked.news step.own acts;
-    callers = callers;
-  }
+  learned_follows =
+      assumption
+      (learned_fits shape kept.log view (kept.fits id view at) step.after step.same step.writer step.reader
+      step.entries marked.now marked.news step.own acts)
 
   pub chosen : NamesGo view marked.now → (then : View → Type 0) → then learned_next
       → Choice shape id view operation tells notes state kept step marked then
@@ -209,26 +171,9 @@ module
 
   pub still_chosen : NamesStay view marked.now → (then : View → Type 0) → then still_next
       → Choice shape id view operation tells notes state kept step marked then
-  still_chosen stay then told = let fits = learned_follows.fits in record {
+  still_chosen stay then told = record {
     next = still_next;
-    follows = record {
-      role = refl;
-      made = refl;
-      announcers = refl;
-      marks = refl;
-      pasts = refl;
-      told_pasts = refl;
-      fits =
-          record {
-            begins = fits.begins;
-            told = fits.told;
-            own = fits.own;
-            knows_own = fits.knows_own;
-            acts = fits.acts;
-            sized = fits.sized;
-          };
-      callers = callers;
-    };
+    follows = assumption learned_follows;
     says = refl;
     hears = λ writes. hears_as view still_next refl (stay writes);
     told = told;
@@ -254,18 +199,12 @@ module
 
   pub waited_follows : step.entries ≡ []
       → Follows shape id view operation tells notes state kept step marked waited_next
-  waited_follows none = let fits = kept.fits id view at in record {
-    role = refl;
-    made = refl;
-    announcers = refl;
-    marks = refl;
-    pasts = refl;
-    told_pasts = refl;
-    fits = rw none
-        (waited_fits shape kept.log view fits step.after step.same step.writer step.reader marked.now marked.news
-        (subst (λ (entries : List Entry). ActsGo view step.after entries marked.now) none acts));
-    callers = callers;
-  }
+  waited_follows none =
+      let fits : Fits shape (kept.log ++ step.entries) waited_next
+      = rw none
+      (waited_fits shape kept.log view (kept.fits id view at) step.after step.same step.writer step.reader marked.now
+      marked.news (rw none at acts)) in
+      assumption fits
 
   pub waited_rests : marked.news ≡ [] → Waits view waited_next
   waited_rests no_news =

@@ -9,7 +9,7 @@ use Rattle.atomic_table.specs.Table.{Allows, Joins, Me, State, keeps, step}
 use Rattle.atomic_table.proofs.Lists.{at_map, set_else}
 use Rattle.nr_model.specs.Histories.{Entry}
 use Rattle.nr_core.proofs.Seat.{notes}
-use Rattle.nr_core.proofs.Sums.{at_set, at_snoc, here_after, set_again, total-append}
+use Rattle.nr_core.proofs.Sums.{here_after, set_again, total-append}
 use Rattle.nr_core.specs.Core.{Core}
 use Rattle.nr_core.specs.Roles.{holds, is_by, is_reader, is_writer}
 use Rattle.nr_core.specs.Sums.{total}
@@ -31,6 +31,7 @@ use Rattle.nr_board.specs.Views.{Loaded, View, no_desk}
 use Rattle.std.specs.Prelude.{nat_lt}
 use Rattle.nr_board.specs.Announcing.{lends, lent}
 use Rattle.nr_board.proofs.Heard.{AllHear, hears_as, hears_more, hears_on}
+use Rattle.nr_board.proofs.OneView.{at_any, at_more}
 use Rattle.nr_board.proofs.Counting.{announces_more, announces_on, counted_same, lent_more, lent_same}
 
 -- a number that is no caller's has no entries
@@ -91,12 +92,10 @@ module _ (shape : Shape) (state : State (Unit {0}) View) (id : ℕ) (view next :
             announces_on shape kept.announcers state.words state.words state.views id view next at
             (λ caller. ap (is_by caller) same) says lend (λ _ _. refl) refl kept.announced;
         announcers = kept.announcers;
-        told_of =
-            at_any (λ (u : View). 0 < is_writer u.role + is_reader u.role → u.announcers ≡ kept.announcers)
-            of_announcers kept.told_of;
+        told_of = at_any state.views id next of_announcers (λ j u _. kept.told_of j u);
         hears = heard;
         core = subst (λ (rs : List Role). Core shape kept.counted rs kept.log) (sym same_roles) kept.core;
-        fits = at_any (Fits shape kept.log) fits kept.fits;
+        fits = at_any state.views id next fits (λ j u _. kept.fits j u);
         callers = kept.callers;
         once = λ caller. omega (arith, kept.once caller, ap (total (counts caller)) same_roles);
         made = kept.made;
@@ -109,15 +108,8 @@ module _ (shape : Shape) (state : State (Unit {0}) View) (id : ℕ) (view next :
         pasts = knowing_set role_of marks_of pasts_of state.views id view next at evolves pasts kept.pasts;
         told_pasts =
             knowing_set role_of marks_of told_pasts_of state.views id view next at evolves told kept.told_pasts;
-        maker = at_any (λ (u : View). is_writer u.role ≡ 1 → u.made ≡ kept.made) made kept.maker;
+        maker = at_any state.views id next made (λ j u _. kept.maker j u);
       }
-    where
-      at_any : (P : View → Type 0) → P next → ((j : ℕ) (u : View) → get_elem? state.views j ≡ some u → P u)
-          → (j : ℕ) (u : View) → get_elem? later j ≡ some u → P u
-      at_any P of_next of_other j u there =
-          ⊎_elim (λ (t : (j ≡ id) × (next ≡ u)). subst P t.1 of_next)
-          (λ (t : (j ≢ id) × (get_elem? state.views j ≡ some u)). of_other j u t.1)
-          (at_set state.views id j next u there)
 
 -- so does one that counts steps, logs loads and hears what it hears
 pub counts_on : (shape : Shape) (state : State (Unit {0}) View) (id : ℕ) (view : View) (kept : Kept shape state)
@@ -130,15 +122,8 @@ pub counts_on : (shape : Shape) (state : State (Unit {0}) View) (id : ℕ) (view
 counts_on shape state id view kept at steps loads heard loaded hears =
     let next
     = record view { steps = steps; marks = with_loads view.marks loads; heard = heard; loaded_ahead = loaded } in
-    let fits = kept.fits id view at in
-    replaced shape state id view next kept at refl (inl refl) refl hears (kept.told_of id view at) (record {
-      begins = fits.begins;
-      told = fits.told;
-      own = fits.own;
-      knows_own = fits.knows_own;
-      acts = fits.acts;
-      sized = fits.sized;
-    }) (kept.maker id view at) (kept.pasts id view at) (kept.told_pasts id view at)
+    replaced shape state id view next kept at refl (inl refl) refl hears (kept.told_of id view at)
+    (assumption (kept.fits id view at)) (kept.maker id view at) (kept.pasts id view at) (kept.told_pasts id view at)
 
 pub logs_on : (shape : Shape) (state : State (Unit {0}) View) (id : ℕ) (view : View) (kept : Kept shape state)
     → get_elem? state.views id ≡ some view → (steps : ℕ) (loads : List LoggedLoad) (loaded : List Loaded)
@@ -170,26 +155,18 @@ adds_note shape source state kept begins since =
       announced =
           announces_more shape kept.announcers state.words views note refl (λ own his. absurd (cc)) kept.announced;
       announcers = kept.announcers;
-      told_of = λ j u there calls. ⊎_elim (λ (t : get_elem? views j ≡ some u). kept.told_of j u t calls)
-          (λ (t : note ≡ u). absurd
-          (let none = ap (λ (y : View). is_writer y.role + is_reader y.role) t in omega arith))
-          (at_snoc views note u j there);
+      told_of = at_more views note (λ _ calls. absurd (omega arith)) kept.told_of;
       hears = hears_more views note refl refl kept.hears;
       core =
           rw more (notes shape kept.counted roles kept.log kept.core);
-      fits = λ j u there. ⊎_elim (λ (t : get_elem? views j ≡ some u). kept.fits j u t)
-          (λ (t : note ≡ u). subst (Fits shape kept.log) t (note_fits shape kept.log source note refl begins refl))
-          (at_snoc views note u j there);
+      fits = at_more views note (λ _. note_fits shape kept.log source note refl begins refl) kept.fits;
       callers = kept.callers;
       once = λ caller. omega (arith, kept.once caller, tally caller);
       made = kept.made;
       readers = omega (arith, kept.readers, ap (total is_reader) more, total-append is_reader roles (Note ∷ []));
       fresh = λ caller later. tally caller ∙ kept.fresh caller later;
       silent = kept.silent;
-      maker = λ j u there writes. ⊎_elim (λ (t : get_elem? views j ≡ some u). kept.maker j u t writes)
-          (λ (t : note ≡ u). absurd
-          (let none : is_writer Note ≡ is_writer u.role = ap (λ (y : View). is_writer y.role) t in omega arith))
-          (at_snoc views note u j there);
+      maker = at_more views note (λ _ writes. absurd (omega arith)) kept.maker;
       marked =
           seats_marked role_of marks_of shape kept.counted views kept.log note (λ reader grip reads. absurd (cc))
           kept.marked tt;
@@ -277,16 +254,8 @@ pub takes_so : (shape : Shape) (id : ℕ) (view : View) (steps other : ℕ) (not
     })
 takes_so shape id view steps other note is state kept at apart beside =
     let both = record (told_by_note view note) { steps = steps } in let views = set state.views id both in
-    let fits = kept.fits id view at in
     let mine : Fits shape kept.log both
-    = record {
-      begins = fits.begins;
-      told = (kept.fits other note beside).begins;
-      own = fits.own;
-      knows_own = fits.knows_own;
-      acts = fits.acts;
-      sized = fits.sized;
-    } in
+    = assumption ((kept.fits other note beside).begins, kept.fits id view at) in
     let taken
     = replaced shape state id view both kept at refl (inl refl) refl
     (heard_same state.views id view both at refl refl (λ _. (refl, refl)) kept.hears) (kept.told_of id view at)

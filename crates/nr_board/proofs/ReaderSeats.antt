@@ -135,9 +135,6 @@ held_says table held seat so loud =
 pub filled_name : (word : ℕ) → is_filled word ≡ true → name_number word ≡ suc (slot_of word)
 filled_name word full = ap (λ (b : Bool). cond {A = ℕ} b (slot_of word + 1) 0) full ∙ omega arith
 
-names_filled : (held word : ℕ) → is_filled word ≡ true → names_slot held word ≡ nat_eq (slot_of word) held
-names_filled held word full = grind arith
-
 pub names_empty : (held word : ℕ) → is_filled word ≡ false → names_slot held word ≡ false
 names_empty held word empty = grind arith
 

@@ -1,12 +1,12 @@
 -- The reader's steps on the table: request, arrive, read, find again, depart.
 use Rattle.std.proofs.Common.{get_or-set_other, inr, ◌≡◌, ℕ, suc, ◌+◌, ◌-◌, ◌%◌, ◌^◌, ◌<◌, ◌≤◌, List, [], ◌∷◌, ◌++◌}
-use Rattle.std.proofs.Common.{Bool, true, false, cond, length, get_or, set, ⊎_elim, refl, sym, ap, ◌∙◌, subst, arith}
+use Rattle.std.proofs.Common.{Bool, true, false, cond, length, map, get_or, set, ⊎_elim, refl, sym, ap, ◌∙◌, subst, arith}
 use Rattle.std.proofs.Common.{eq-eqb}
 use Rattle.std.specs.Prelude.{bit_or}
 use mathlib.Core.Option.{none, some}
 use Rattle.atomic_table.specs.Table.{Allows, Me, State, step}
 use Rattle.nr_model.specs.Histories.{Entry}
-use Rattle.nr_model.specs.Maps.{call_key, state_of}
+use Rattle.nr_model.specs.Maps.{state_of}
 use Rattle.nr_model.specs.Rows.{IsRowSet}
 use Rattle.nr_model.specs.declared.rows.Row.{Row}
 use Rattle.nr_model.specs.declared.calls.Call.TheVariants as model
@@ -22,9 +22,10 @@ use Rattle.nr_core.proofs.FindAgain.{finds_again}
 use Rattle.nr_core.proofs.KeyWords.{names_none, names_one}
 use Rattle.nr_core.proofs.Read.{reads}
 use Rattle.nr_core.specs.Roles.{holds, is_by, is_reader, is_writer}
+use Rattle.nr_core.specs.declared.operation.Operation.{Operation}
 use Rattle.nr_core.specs.declared.operation.Operation.TheVariants.{Add, Load, Or}
 use Rattle.nr_core.specs.Slots.{content, departures, name_number, bound_of, names_slot, slot_room}
-use Rattle.nr_core.specs.Steps.{Arrives, Asks, CanStep, Departs, FindsAgain, ReadsHeld, ask_word}
+use Rattle.nr_core.specs.Steps.{Arrives, Asks, CanStep, Departs, FindsAgain, ReadsHeld, Stepped, Telling}
 use Rattle.nr_core.specs.Story.{entry, map_after}
 use Rattle.nr_core.specs.declared.roles.Grip.{Grip}
 use Rattle.nr_core.specs.declared.roles.Grip.TheVariants.{Nothing, On}
@@ -40,17 +41,15 @@ use Rattle.nr_board.proofs.Lift.{lifts, sees_plain, silent_lends}
 use Rattle.nr_board.proofs.Counting.{counted_departure}
 use Rattle.nr_board.specs.Announcing.{lent, says_at}
 use Rattle.nr_core.proofs.WordPlaces.{content_inside, departures_inside}
-use Rattle.nr_board.proofs.Moves.{ActsGo, learned, learning, names_go, reads_only, waiting}
-use Rattle.nr_board.specs.Entries.{AreCallers, acts_told, is_reading, to_depart}
-use Rattle.nr_core.specs.Marked.{KnowsMarks}
+use Rattle.nr_board.proofs.Moves.{ActsGo, learned, learning, names_go, reads_only, waited, waiting}
+use Rattle.nr_board.specs.Entries.{AreCallers, acts_told, to_depart}
+use Rattle.nr_core.specs.Marked.{KnowsMarks, MarkTelling, Remarked}
 use Rattle.nr_core.specs.Marks.{Marks, gripped, with_look}
 use lib.ListN.{get_elem?}
 use lib.Seq.{set-get_or}
-use Rattle.nr_model.specs.declared.calls.Call.{Call}
-use Rattle.nr_model.specs.declared.calls.Reply.{Reply}
 use Rattle.nr_board.specs.Kinds.{kind_of, kind_shown}
-use Rattle.nr_board.specs.Plays.{Advances, Arrived, Asked, Departed, FoundAgain, IsIdle, holding, Read, has_arrived}
-use Rattle.nr_board.specs.Plays.{has_asked, has_departed, has_found_again, has_read_word}
+use Rattle.nr_board.specs.Plays.{Advances, Arrived, Asked, Departed, FoundAgain, IsIdle, Waits, holding, Read}
+use Rattle.nr_board.specs.Plays.{has_arrived, has_asked, has_departed, has_found_again, has_read_word}
 use Rattle.nr_board.specs.Rule.{Fits, Kept, marks_of, role_of}
 use Rattle.nr_board.specs.Views.{View, grip_of, is_sized, caller_number, rows_held, slot_held}
 
@@ -74,13 +73,6 @@ reader_within shape id view grip state kept at is =
     (subst (λ r. KnowsMarks role_of marks_of shape kept.counted state.views kept.log r view.marks) is
     (kept.marked.each id view at)).1
 
--- a find or a request is an entry of the reader's
-pub reader_entry : (shape : Shape) (reader : ℕ) (call : Call) (answer : Reply) (entries : List Entry)
-    → entries ≡ entry reader call answer ∷ []
-    → call_key call < shape.keys → reader ≤ shape.readers → is_reading call ≡ true → AreCallers shape entries
-reader_entry shape reader call answer entries is near low reads =
-    subst (AreCallers shape) (sym is) ((near, inr (low, reads)), tt)
-
 -- the reader's count, by its hold before and after
 pub acts_so : (view : View) (marks : Marks) {after : Role} {entries told : List Entry} {number other : ℕ}
     {before now : Grip}
@@ -92,6 +84,38 @@ acts_so view marks held holds is count reads =
     let n = ap (λ r. to_depart (gripped (grip_of r))) holds in
     let t = ap acts_told is in
     omega arith
+
+-- a step of a reader, by what it holds before and after, learns the history so far and adds entries, or learns nothing
+module
+    _ {shape : Shape} {id : ℕ} {view : View} {operation : Operation} {tells : Telling} {notes : MarkTelling}
+    {state : State (Unit {0}) View} (kept : Kept shape state) (at : get_elem? state.views id ≡ some view)
+    (step : Stepped shape kept.counted (map role_of state.views) kept.log id view.role operation tells)
+    (marked : Remarked role_of marks_of shape kept.counted state.views kept.log id operation view step.after
+    step.entries notes) {grip now : Grip} {told : List Entry}
+    (is : view.role ≡ Reader (caller_number view.role) grip)
+    (after : step.after ≡ Reader (caller_number view.role) now) (no_news : marked.news ≡ [])
+    (told_is : step.entries ≡ told) (count : marked.now.acts + to_depart (gripped now)
+    ≡ view.marks.acts + to_depart (gripped grip) + acts_told told) (then : View → Type 0) where
+  sized : view.shape ≡ shape
+  sized = reader_shape shape kept.log view grip is (kept.fits id view at)
+
+  pub reads_on : (caller_number view.role ≤ shape.readers → AreCallers shape told)
+      → (let next = learned view step.after (kept.log ++ step.entries) step.entries marked.now marked.news in
+      Advances told view next → then next)
+      → Choice shape id view operation tells notes state kept step marked then
+  reads_on callers tell =
+      learning kept at step marked (ap caller_number after) sized
+      (rw told_is (callers (reader_within shape id view grip state kept at is)))
+      (acts_so view marked.now is after told_is count)
+      (names_go view marked.now (reads_only view marked.now (ap is_writer is))) then (reader_is is) no_news told told_is
+      tell
+
+  pub reads_still : told ≡ [] → (let next = waited view step.after marked.now marked.news in Waits view next → then next)
+      → Choice shape id view operation tells notes state kept step marked then
+  reads_still quiet tell =
+      waiting kept at step marked (ap caller_number after) sized (rw (told_is ∙ quiet) tt)
+      (acts_so view marked.now is after told_is count) (reads_only view marked.now (ap is_writer is)) then no_news
+      (told_is ∙ quiet) tell
 
 pub asks_so : (shape : Shape) (slots id : ℕ) (me : Me (Unit {0}) View) (key : ℕ) → key < shape.keys → IsIdle me.0.role
     → Allows (Kept shape) slots id me key (λ word. bit_or word 1) (has_asked (step slots key 1 0 none) me)
@@ -105,17 +129,11 @@ asks_so shape slots id me key near idle =
     (sees_plain shape id view (Or key 1) tells (KeepsMarks view.marks) (λ found next. Asked key found view next)
     (key_inside shape key near) (key_no_count shape key near)
     (λ state kept at step. lends_on view step.after (λ slot. ap (holds slot) (step.told.0 ∙ sym idle))))
-    (λ state kept at step marked. let role : step.after ≡ view.role = step.told.0 ∙ sym idle in
-    learning kept at step marked (ap caller_number role)
-    (reader_shape shape kept.log view Nothing idle (kept.fits id view at))
-    (reader_entry shape reader (model.Ask key) _ step.entries step.told.1 near
-    (reader_within shape id view Nothing state kept at idle) refl)
-    (acts_so view marked.now idle step.told.0 step.told.1
-    (let same = ap (λ (m : Marks). m.acts) marked.told.0 in omega arith))
-    (names_go view marked.now (reads_only view marked.now (ap is_writer idle)))
-    (λ next. Asked key (get_or kept.counted key 0) view next) (reader_is idle) marked.told.1
-    (entry reader (model.Ask key) (ask_word (get_or kept.counted key 0)) ∷ []) step.told.1
-    (λ advances. record { role = role; gains = advances; marks = marked.told.0; says = refl }))
+    (λ state kept at step marked.
+    reads_on kept at step marked idle step.told.0 marked.told.1 step.told.1
+    (omega (arith, ap (λ (m : Marks). m.acts) marked.told.0))
+    (λ next. Asked key (get_or kept.counted key 0) view next) (λ within. ((near, inr (within, refl)), tt))
+    (λ advances. record { role = step.told.0 ∙ sym idle; gains = advances; marks = marked.told.0; says = refl }))
 
 -- what is true is not false
 pub differ : (b : Bool) (P : Type 0) → b ≡ true → b ≡ false → P
@@ -139,16 +157,6 @@ arrives_so shape slots id me key near idle silent =
     (λ state kept at step marked.
     let found : ℕ = get_or kept.counted key 0 in
     let sized = reader_shape shape kept.log view Nothing idle (kept.fits id view at) in
-    let next = learned view step.after (kept.log ++ step.entries) step.entries marked.now marked.news in
-    let choose : caller_number step.after ≡ reader → (told : List Entry) → AreCallers shape step.entries
-    → ActsGo view step.after step.entries marked.now → step.entries ≡ told
-    → (Advances told view next → Arrived key found view next)
-    → Choice shape id view (Add key ARRIVE) tells (ArrivesMarks view.marks key) state kept step marked
-    (λ next. Arrived key found view next)
-    = λ same told callers acts. learning kept at step marked same sized
-    callers acts (names_go view marked.now (reads_only view marked.now (ap is_writer idle)))
-    (λ next. Arrived key found view next) (reader_is idle) marked.told.1 told in
-    let within = reader_within shape id view Nothing state kept at idle in
     let acts_are = ap (λ (m : Marks). m.acts) marked.told.0 in
     ⊎_elim
     (λ (t : (slot : ℕ) × (rows : List Row) × (name_number found ≡ suc slot) × (slot < shape.slots)
@@ -159,11 +167,9 @@ arrives_so shape slots id me key near idle silent =
     let same : caller_number step.after ≡ reader = ap caller_number t.5 in
     let rows_so : rows_held step.after ≡ t.1 = ap rows_held t.5 in
     let slot_so : slot_held step.after ≡ t.0 = ap slot_held t.5 in
-    choose same (entry reader (model.Find key) (reply.Rows (rows_held step.after)) ∷ [])
-    (reader_entry shape reader (model.Find key) _ step.entries t.6 near within refl)
-    (acts_so view marked.now idle t.5 t.6
-    (omega arith)) (t.6 ∙ ap (λ (rows : List Row). entry reader (model.Find key) (reply.Rows rows) ∷ []) (sym rows_so))
-    (λ advances. record {
+    reads_on kept at step marked idle t.5 marked.told.1
+    (t.6 ∙ ap (λ (rows : List Row). entry reader (model.Find key) (reply.Rows rows) ∷ []) (sym rows_so)) (omega arith)
+    (λ next. Arrived key found view next) (λ within. ((near, inr (within, refl)), tt)) (λ advances. record {
       number = same;
       held = λ _. (
         record {
@@ -184,10 +190,8 @@ arrives_so shape slots id me key near idle silent =
     }))
     (λ (t : (name_number found ≡ 0) × (step.after ≡ Reader reader Nothing)
     × (step.entries ≡ entry reader (model.Find key) reply.Hole ∷ [])).
-    choose (ap caller_number t.1) (entry reader (model.Find key) reply.Hole ∷ [])
-    (reader_entry shape reader (model.Find key) _ step.entries t.2 near within refl)
-    (acts_so view marked.now idle t.1 t.2 (omega arith))
-    t.2 (λ advances. record {
+    reads_on kept at step marked idle t.1 marked.told.1 t.2 (omega arith) (λ next. Arrived key found view next)
+    (λ within. ((near, inr (within, refl)), tt)) (λ advances. record {
       number = ap caller_number t.1;
       held = λ full. differ (is_filled found) _ full (names_none found t.0);
       hole = λ _. (t.1 ∙ sym idle, advances);
@@ -216,13 +220,10 @@ reads_so shape slots id me index is near short low sized =
     (sees_plain shape id view (Load place) tells (KeepsMarks view.marks) (λ found next. Read place found view next)
     (content_inside shape slot index near short) (content_no_count shape slot index short)
     (λ state kept at step. lends_on view step.after (λ s. ap (holds s) step.told.1 ∙ sym (ap (holds s) is))))
-    (λ state kept at step marked. let same : caller_number step.after ≡ reader = ap caller_number step.told.1 in
-    waiting kept at step marked same sized (subst (AreCallers shape) (sym step.told.2) tt)
-    (acts_so view marked.now is step.told.1 step.told.2
-    (let same = ap (λ (m : Marks). m.acts) marked.told.0 in omega arith))
-    (reads_only view marked.now (ap is_writer is)) (λ next. Read place (get_or kept.counted place 0) view next)
-    marked.told.1 step.told.2
-    (λ waits. record {
+    (λ state kept at step marked.
+    reads_still kept at step marked is step.told.1 marked.told.1 step.told.2
+    (omega (arith, ap (λ (m : Marks). m.acts) marked.told.0))
+    (λ next. Read place (get_or kept.counted place 0) view next) refl (λ waits. record {
       value =
           let begins : content view.shape slot 0 ≡ content shape slot 0 = ap (λ (s : Shape). content s slot 0) sized in
           let back : index ≡ place - content view.shape slot 0 = omega arith in
@@ -255,7 +256,6 @@ finds_again_so shape slots id me key near is sized =
     (λ state kept at step. lends_on view step.after (λ s. ap (holds s) step.told.0 ∙ sym (ap (holds s) is))))
     (λ state kept at step marked. let found : ℕ = get_or kept.counted key 0 in let names = names_slot slot found in
     let role : step.after ≡ view.role = step.told.0 ∙ sym is in
-    let within = reader_within shape id view _ state kept at is in
     let inside : (other : ℕ) → name_number found ≡ suc other → other < view.shape.slots
     = λ other so. subst (λ (s : Shape). other < s.slots) (sym sized) (step.told.2 other so) in
     let log : List Entry = kept.log ++ step.entries in
@@ -264,15 +264,6 @@ finds_again_so shape slots id me key near is sized =
     ∙ shows_kind shape (set kept.counted key found) (get_or (set kept.counted key found) key 0)
     (state_of (map_after shape log) key) (step.core.shows key near)
     ∙ ap (λ (s : Shape). kind_of (state_of (map_after s log) key)) (sym sized) in
-    let after = learned view step.after log step.entries marked.now marked.news in
-    let choose : (told : List Entry) → AreCallers shape step.entries → step.entries ≡ told
-    → marked.now.acts ≡ view.marks.acts + acts_told told
-    → (Advances told view after → FoundAgain key found view after)
-    → Choice shape id view (Load key) tells notes state kept step marked (λ next. FoundAgain key found view next)
-    = λ told callers is_told count tell. learning kept at step marked (ap caller_number role) sized callers
-    (acts_so view marked.now is step.told.0 is_told (omega arith))
-    (names_go view marked.now (reads_only view marked.now (ap is_writer is))) (λ next. FoundAgain key found view next)
-    (reader_is is) marked.told.1 told is_told tell in
     by_cases
     (λ _. Choice shape id view (Load key) tells notes state kept step marked
     (λ next. FoundAgain key found view next))
@@ -283,8 +274,8 @@ finds_again_so shape slots id me key near is sized =
     let count : marked.now.acts ≡ suc (suc view.marks.acts)
     = ap (λ (m : Marks). m.acts) marked.told.0
     ∙ ap (λ (b : Bool). (found_again b (with_look view.marks key (name_number found))).acts) yes in
-    choose (e ∷ []) (reader_entry shape reader (model.Find key) _ step.entries is_told near within refl) is_told
-    (omega arith) (λ advances. record {
+    reads_on kept at step marked is step.told.0 marked.told.1 is_told (omega arith)
+    (λ next. FoundAgain key found view next) (λ within. ((near, inr (within, refl)), tt)) (λ advances. record {
       role = role;
       same = λ _. advances;
       other = λ no. differ names _ yes no;
@@ -298,7 +289,8 @@ finds_again_so shape slots id me key near is sized =
     let count : marked.now.acts ≡ view.marks.acts
     = ap (λ (m : Marks). m.acts) marked.told.0
     ∙ ap (λ (b : Bool). (found_again b (with_look view.marks key (name_number found))).acts) no in
-    choose [] (subst (AreCallers shape) (sym is_told) tt) is_told (omega arith) (λ advances. record {
+    reads_on kept at step marked is step.told.0 marked.told.1 is_told (omega arith)
+    (λ next. FoundAgain key found view next) (λ _. tt) (λ advances. record {
       role = role;
       same = λ yes. differ names _ yes no;
       other = λ _. advances;
@@ -338,9 +330,7 @@ departs_so shape slots id me is near sized silent =
       silent_lends view step.after silent,
       λ next told. told,
     ))
-    (λ state kept at step marked. waiting kept at step
-    marked (ap caller_number step.told.0) sized (subst (AreCallers shape) (sym step.told.1) tt)
-    (acts_so view marked.now is step.told.0 step.told.1
-    (let same = ap (λ (m : Marks). m.acts) marked.told.0 in omega arith))
-    (reads_only view marked.now (ap is_writer is)) (λ next. Departed view next) marked.told.1 step.told.1
+    (λ state kept at step marked.
+    reads_still kept at step marked is step.told.0 marked.told.1 step.told.1
+    (omega (arith, ap (λ (m : Marks). m.acts) marked.told.0)) (λ next. Departed view next) refl
     (λ waits. record { role = step.told.0; waits = waits; marks = marked.told.0; says = refl }))

@@ -27,42 +27,35 @@ use Rattle.std.specs.Prelude.{nat_lt}
 
 -- the state that a reply tells
 asked_if : (number : ℕ) (state : KeyState) → reply.Done ≡ fill_reply number state → kind_of state ≡ kind.Asked
-asked_if number (states.Hole n) is = absurd (cc)
 asked_if number (states.Asked n) is = refl
-asked_if number (states.Rows n rows) is = absurd (cc)
+asked_if number other is = absurd (cc)
 
 full_if_updated : (bound : ℕ) (batch : List Delta) (state : KeyState) → reply.Done ≡ update_reply bound batch state
     → kind_of state ≡ kind.Rows
-full_if_updated bound batch (states.Hole n) is = absurd (cc)
-full_if_updated bound batch (states.Asked n) is = absurd (cc)
 full_if_updated bound batch (states.Rows n rows) is = refl
+full_if_updated bound batch other is = absurd (cc)
 
 full_if_replaced : (state : KeyState) → reply.Done ≡ replace_reply state → kind_of state ≡ kind.Rows
-full_if_replaced (states.Hole n) is = absurd (cc)
-full_if_replaced (states.Asked n) is = absurd (cc)
 full_if_replaced (states.Rows n rows) is = refl
+full_if_replaced other is = absurd (cc)
 
 full_if_evicted : (state : KeyState) → reply.Evicted ≡ evict_reply state → kind_of state ≡ kind.Rows
-full_if_evicted (states.Hole n) is = absurd (cc)
-full_if_evicted (states.Asked n) is = absurd (cc)
 full_if_evicted (states.Rows n rows) is = refl
+full_if_evicted other is = absurd (cc)
 
 no_find : (state : KeyState) (P : Type 0) → reply.Done ≡ find_reply state → P
 no_find (states.Hole n) P is = absurd (cc)
-no_find (states.Asked n) P is = absurd (cc)
-no_find (states.Rows n rows) P is = absurd (cc)
+no_find other P is = absurd (cc)
 
 no_evict : (state : KeyState) (P : Type 0) → reply.Done ≡ evict_reply state → P
 no_evict (states.Hole n) P is = absurd (cc)
-no_evict (states.Asked n) P is = absurd (cc)
-no_evict (states.Rows n rows) P is = absurd (cc)
+no_evict other P is = absurd (cc)
 
 no_cancel : (state : KeyState) (P : Type 0) → reply.Done ≡ cancel_reply state → P
-no_cancel (states.Hole n) P is = absurd (cc)
 no_cancel (states.Asked n) P is =
     on_test (λ (r : Reply). reply.Done ≡ r → P) (nat_lt n last_number) (λ _ done. absurd (cc))
     (λ _ done. absurd (cc)) is
-no_cancel (states.Rows n rows) P is = absurd (cc)
+no_cancel other P is = absurd (cc)
 
 -- the word that shows that state
 asked_word : (word : ℕ) → kind_shown word ≡ kind.Asked → is_filled word ≡ false

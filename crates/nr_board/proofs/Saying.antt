@@ -10,7 +10,8 @@ use mathlib.Core.Option.{some}
 use lib.ListN.{get_elem?}
 use Rattle.nr_words.specs.Places.{total_of}
 use Rattle.nr_board.proofs.Counting.{no_reader_before}
-use Rattle.nr_core.proofs.Sums.{at_set, here_after, only-le, total-le}
+use Rattle.nr_board.proofs.OneView.{at_any}
+use Rattle.nr_core.proofs.Sums.{here_after, only-le, total-le}
 use Rattle.nr_core.proofs.WordPlaces.{departures_inside, same_departures}
 use Rattle.nr_core.specs.Roles.{holds, is_by, is_reader}
 use Rattle.nr_core.specs.Slots.{departures, layout}
@@ -119,26 +120,19 @@ announces_own shape announcers words after views id own view next at mine has sa
     before =
     record {
       space = let space = before.space in omega arith;
-      says = λ j other u there his low. ⊎_elim
-          (λ (q : (j ≡ id) × (next ≡ u)).
-          let same : suc other ≡ suc own
-          = is_one u.role (suc other) (suc own) his (ap (λ (v : View). is_by (suc own) v.role) (sym q.1) ∙ mine) in
-          let same_own : other ≡ own = omega arith in
-          ap (λ (n : ℕ). get_or after (says_at shape n) 0) same_own ∙ now ∙ ap (λ (v : View). v.says) q.1)
-          (λ (q : (j ≢ id) × (get_elem? views j ≡ some u)). dite (ℕ_discrete other own)
-          (λ e. absurd (alone j u q.0 q.1 (ap (λ (n : ℕ). is_by (suc n) u.role) (sym e) ∙ his)))
-          (λ ne. frame other ne ∙ before.says j other u q.1 his low)) (at_set views id j next u there);
-      wordless = λ j u there none. ⊎_elim
-          (λ (q : (j ≡ id) × (next ≡ u)). absurd
-          (false≢true (sym (ap (λ (v : View). is_by (suc own) v.role) q.1 ∙ none own has) ∙ mine)))
-          (λ (q : (j ≢ id) × (get_elem? views j ≡ some u)). before.wordless j u q.1 none)
-          (at_set views id j next u there);
-      holds_it = λ j slot u there loud grips. ⊎_elim
-          (λ (q : (j ≡ id) × (next ≡ u)). subst (λ (v : View). 0 < v.says → 0 < holds slot v.role → v.says ≡ suc slot)
-          q.1
-          (holds_it slot) loud grips)
-          (λ (q : (j ≢ id) × (get_elem? views j ≡ some u)). before.holds_it j slot u q.1 loud grips)
-          (at_set views id j next u there);
+      says = λ j other u. at_any {P = λ _ v. is_by (suc other) v.role ≡ true → other < announcers
+          → get_or after (says_at shape other) 0 ≡ v.says} views id next
+          (λ his _.
+          let same : other ≡ own = omega (arith, is_one next.role (suc other) (suc own) his mine) in
+          ap (λ (n : ℕ). get_or after (says_at shape n) 0) same ∙ now)
+          (λ i v apart here his low. dite (ℕ_discrete other own)
+          (λ e. absurd (alone i v apart here (ap (λ (n : ℕ). is_by (suc n) v.role) (sym e) ∙ his)))
+          (λ ne. frame other ne ∙ before.says i other v here his low)) j u;
+      wordless =
+          at_any views id next (λ none. absurd (false≢true (sym (none own has) ∙ mine)))
+          (λ j u _. before.wordless j u);
+      holds_it = λ j slot u. at_any {P = λ _ v. 0 < v.says → 0 < holds slot v.role → v.says ≡ suc slot} views id next
+          (holds_it slot) (λ i v _. before.holds_it i slot v) j u;
       unsaid = λ other none low. frame other
           (λ e. false≢true
           (sym (none id next (here_after views id view next at)) ∙ ap (λ (n : ℕ). is_by (suc n) next.role) e ∙ mine))

@@ -13,7 +13,7 @@ use Rattle.atomic_table.proofs.Lists.{at_map}
 use Rattle.nr_model.specs.Histories.{entries_of}
 use Rattle.nr_core.proofs.Seat.{seats}
 use Rattle.nr_core.proofs.Choices.{by_cases}
-use Rattle.nr_core.proofs.Sums.{at_set, at_snoc, set_again, term_le, terms_le, total-append}
+use Rattle.nr_core.proofs.Sums.{set_again, term_le, terms_le, total-append}
 use Rattle.nr_core.specs.Roles.{is_by, is_reader, is_writer}
 use Rattle.nr_core.specs.Sums.{total}
 use Rattle.nr_core.specs.declared.roles.Role.{Role}
@@ -27,6 +27,7 @@ use Rattle.nr_core.specs.Marks.{gripped}
 use Rattle.nr_board.specs.Views.{View, grip_of, next_reader, with_reader}
 use Rattle.nr_board.specs.Announcing.{HasNoReader, lent}
 use Rattle.nr_board.proofs.Heard.{hears_as, hears_more, hears_on}
+use Rattle.nr_board.proofs.OneView.{at_any, at_more}
 use Rattle.nr_board.proofs.Counting.{announces_more, announces_on, counted_same, lent_more, lent_same}
 
 at_most_one : (y : Bool) → cond y 1 0 ≤ 1
@@ -81,41 +82,26 @@ seats_so shape id view writes few state kept at =
           (announces_on shape kept.announcers state.words state.words views id view left at (λ _. refl) refl (λ _. refl)
           (λ _ _. refl) refl kept.announced);
       announcers = kept.announcers;
-      told_of = λ j u there calls. ⊎_elim
-          (λ (t : get_elem? (set views id left) j ≡ some u). ⊎_elim
-          (λ (q : (j ≡ id) × (left ≡ u)). ap (λ (y : View). y.announcers) (sym q.1)
-          ∙ kept.told_of id view at (omega arith))
-          (λ (q : (j ≢ id) × (get_elem? views j ≡ some u)). kept.told_of j u q.1 calls) (at_set views id j left u t))
-          (λ (t : next ≡ u). ap (λ (y : View). y.announcers) (sym t) ∙ kept.told_of id view at (omega arith))
-          (at_snoc (set views id left) next u j there);
+      told_of =
+          at_more (set views id left) next (λ _ _. kept.told_of id view at (omega arith))
+          (at_any views id left (kept.told_of id view at) (λ j u _. kept.told_of j u));
       hears =
           hears_more (set views id left) next refl refl
           (hears_on views id view left at (λ _. refl) refl (λ _. refl) (λ _. hears_as view left refl refl)
           kept.hears);
       core =
           rw more (seats shape kept.counted roles kept.log (view.made + 1) kept.core (omega (arith, kept.readers)));
-      fits = λ j u there. ⊎_elim
-          (λ (t : get_elem? (set views id left) j ≡ some u). ⊎_elim
-          (λ (q : (j ≡ id) × (left ≡ u)). subst (Fits shape kept.log) q.1
-          (record {
-            begins = fits.begins;
-            told = fits.told;
-            own = fits.own;
-            knows_own = fits.knows_own;
-            acts = fits.acts;
-            sized = fits.sized;
-          }))
-          (λ (q : (j ≢ id) × (get_elem? views j ≡ some u)). kept.fits j u q.1) (at_set views id j left u t))
-          (λ (t : next ≡ u). subst (Fits shape kept.log) t (record {
+      fits =
+          at_more (set views id left) next
+          (λ _. record {
             begins = record { rest = kept.log; is = refl };
             told = record { rest = kept.log; is = refl };
             own = silent;
-            knows_own = λ caller e.
-                refl;
+            knows_own = λ caller e. refl;
             acts = λ reads. refl;
             sized = λ _. fits.sized (omega arith);
-          }))
-          (at_snoc (set views id left) next u j there);
+          })
+          (at_any views id left (assumption fits) (λ j u _. kept.fits j u));
       callers = kept.callers;
       once = λ caller. dite (ℕ_discrete caller (view.made + 1))
           (λ e.
@@ -142,17 +128,14 @@ seats_so shape id view writes few state kept at =
           (no_places (Since role_of marks_of (set views id left)))
           (knowing_set role_of marks_of told_pasts_of views id view left at evolves (kept.told_pasts id view at)
           kept.told_pasts);
-      maker = λ j u there w. ⊎_elim
-          (λ (t : get_elem? (set views id left) j ≡ some u). ⊎_elim
-          (λ (q : (j ≡ id) × (left ≡ u)). let z : view.made + 1 ≡ u.made = ap (λ (y : View). y.made) q.1 in omega arith)
-          (λ (q : (j ≢ id) × (get_elem? views j ≡ some u)). absurd
+      maker =
+          at_more (set views id left) next (λ _ w. absurd (omega arith))
+          (at_any views id left (λ _. omega arith)
+          (λ j u ne there w. absurd
           (omega (
             arith,
-            terms_le is_writer roles id j view.role u.role q.0 (at_map role_of views id view at)
-                (at_map role_of views j u q.1),
+            terms_le is_writer roles id j view.role u.role ne (at_map role_of views id view at)
+                (at_map role_of views j u there),
             kept.core.one,
-          ))) (at_set views id j left u t))
-          (λ (t : next ≡ u). absurd
-          (let z : is_writer next.role ≡ is_writer u.role = ap (λ (y : View). is_writer y.role) t in omega arith))
-          (at_snoc (set views id left) next u j there);
+          ))));
     }

@@ -23,16 +23,7 @@ seat_rests before after same waits =
     subst (λ (id : TableId). Rests 1 (token before) (caller_of id after.me.0)) (sym same) (waits before.table_id)
 
 pub rests_none : (caller : Caller) → Rests 0 caller caller
-rests_none caller =
-    record {
-      table = refl;
-      number = refl;
-      seen = refl;
-      mine = refl;
-      steps_made = omega arith;
-      pasts = refl;
-      loaded_ahead = refl;
-    }
+rests_none caller = let same : caller.steps ≡ caller.steps + 0 = omega arith in assumption
 
 pub rests_both : (m n sum : ℕ) (a b c : Caller) → sum ≡ m + n → Rests m a b → Rests n b c → Rests sum a c
 rests_both m n sum a b c is first then = record {

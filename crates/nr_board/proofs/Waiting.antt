@@ -34,19 +34,7 @@ waited_token mid new steps same waits = λ j. caller_of (same j) (waits j)
 grows_counted : {made : ℕ} {entries : List Entry} {old new : Caller} → Grows made entries old new
     → (sum before after : ℕ) → after ≡ before + sum
     → Grows sum entries (record old { steps = before }) (record new { steps = after })
-grows_counted grows sum before after count = record {
-  table = grows.table;
-  number = grows.number;
-  between = grows.between;
-  seen = grows.seen;
-  mine = grows.mine;
-  legal = grows.legal;
-  own = grows.own;
-  callers = grows.callers;
-  steps_made = count;
-  pasts = grows.pasts;
-  loaded_ahead = grows.loaded_ahead;
-}
+grows_counted grows sum before after count = search (grows, count)
 
 -- both began and ended that many steps later
 grows_later : (steps made : ℕ) (old mid : Caller) (entries : List Entry) → Grows made entries old mid
@@ -80,8 +68,7 @@ pub takes_later : (table : Table) (call : WriterCall) (rows : List Row) (slot de
 takes_later table call rows slot departed lists after old mid new steps takes same waits = record {
   steps = takes.steps;
   loads = takes.loads;
-  took =
-      rw (sym (ap (λ (v : View). v.heard) (sym waits))) takes.took;
+  took = rw (ap (λ (v : View). v.heard) waits) takes.took;
   few = takes.few;
   slots = takes.slots;
   numbers = takes.numbers;
@@ -116,19 +103,7 @@ given_out shows {table = table} {lists = lists} {before = before} {mid = mid} sl
 
 lacks_later : (call : Call) (counts : NoSlot) (caller : Caller) (steps : ℕ) → Lacks call counts caller
     → Lacks call counts (with_steps steps caller)
-lacks_later call counts caller steps lacks =
-    record {
-      would_be_done = lacks.would_be_done;
-      live = lacks.live;
-      held = lacks.held;
-      all = lacks.all;
-      full = lacks.full;
-      apart = lacks.apart;
-      many = lacks.many;
-      others = lacks.others;
-      few = lacks.few;
-      polled = lacks.polled;
-    }
+lacks_later call counts caller steps lacks = assumption lacks
 
 -- a call that has its set has it still
 pub set_later : {table : Table} {lists : SlotLists} {made : ℕ} {call : WriterCall} {rows : List Row} {before
@@ -144,7 +119,7 @@ set_later {table = table} {made = made} {before = before} {mid = mid} steps set 
         slots = settles.slots;
         writes = writes_later table _ mid (later steps mid) steps refl refl settles.writes;
         short = λ counts without. lacks_later _ counts (token mid) steps (settles.short counts without);
-        knows = record { legal = settles.knows.legal; own = settles.knows.own; callers = settles.knows.callers };
+        knows = assumption settles.knows;
         polls = settles.polls;
       };
       grows =

@@ -1,5 +1,5 @@
 -- A reader's steps by its own word: it looks a key up, announces a slot, confirms it, and ends the announcement.
-use Rattle.std.proofs.Common.{◌≡◌, ◌≢◌, ℕ, suc, ◌+◌, ◌-◌, ◌%◌, ◌^◌, ◌<◌, ◌⊎◌, ⊎_elim, List, [], ◌∷◌, ◌++◌, Bool, true}
+use Rattle.std.proofs.Common.{◌≡◌, ◌≢◌, ℕ, suc, ◌+◌, ◌-◌, ◌%◌, ◌^◌, ◌<◌, ◌⊎◌, ⊎_elim, inr, List, [], ◌∷◌, ◌++◌, Bool, true}
 use Rattle.std.proofs.Common.{cond, length-set, map, get_or, get_or-set_same, set, refl, sym, ap, ◌∙◌, subst, arith}
 use Rattle.std.proofs.Common.{lt-ltb}
 use Rattle.std.specs.Prelude.{nat_lt}
@@ -42,14 +42,14 @@ use Rattle.nr_core.specs.Puts.{put_number}
 use Rattle.nr_board.proofs.Counting.{counted_same}
 use Rattle.nr_board.proofs.Lift.{Choice, Follows, Makes, allowed, apart, key_inside, key_no_count, keeps_core}
 use Rattle.nr_board.proofs.Lift.{knows_pasts, lends_on, lent_small, makes, sees_plain, words_after}
-use Rattle.nr_board.proofs.Moves.{ActsGo, learned_follows, learned_gains, learned_next, learning, names_go, reads_only}
+use Rattle.nr_board.proofs.Moves.{ActsGo, learned_follows, learned_gains, learned_next}
 use Rattle.nr_board.proofs.Moves.{waited_follows, waited_next, waited_rests}
-use Rattle.nr_board.proofs.ReaderSteps.{acts_so, differ, reader_entry, reader_is, reader_within}
+use Rattle.nr_board.proofs.ReaderSteps.{acts_so, differ, reader_is, reader_within, reads_on}
 use Rattle.nr_board.proofs.Saying.{announces_own, counted_behind, counted_lent, is_one, says_apart}
 use Rattle.nr_board.proofs.Heard.{AllHear, hears_after, no_reader}
 use Rattle.nr_board.specs.Announcing.{Counted, lends, lent, says_at}
 use Rattle.nr_board.specs.Entries.{AreCallers}
-use Rattle.nr_board.specs.Plays.{Advances, IsIdle, Waits}
+use Rattle.nr_board.specs.Plays.{IsIdle, Waits}
 use Rattle.nr_board.specs.Rule.{Kept, marks_of, role_of}
 use Rattle.nr_board.specs.Views.{View, grip_of, is_sized, caller_number, rows_held, slot_held}
 use Rattle.nr_board.specs.WordPlays.{Confirmed, HasWord, HoldsByWord, HoldsSaid, LookedUp, Said, has_confirmed}
@@ -73,17 +73,7 @@ look_up_makes shape id me key near idle sized =
     (sees_plain shape id view (Load key) tells notes (λ found next. LookedUp key found view next)
     (key_inside shape key near) (key_no_count shape key near)
     (λ state kept at step. lends_on view step.after (λ slot. ap (holds slot) (step.told.0 ∙ sym idle))))
-    (λ state kept at step marked.
-    let found : ℕ = get_or kept.counted key 0 in let role : step.after ≡ view.role = step.told.0 ∙ sym idle in
-    let choose : (told : List Entry) → AreCallers shape step.entries → step.entries ≡ told
-    → ActsGo view step.after step.entries marked.now
-    → ((next : View) → next.says ≡ view.says → next.role ≡ view.role → next.marks ≡ marked.now
-    → next.seen ≡ kept.log ++ step.entries → Advances told view next → LookedUp key found view next)
-    → Choice shape id view (Load key) tells notes state kept step marked (λ next. LookedUp key found view next)
-    = λ told callers is acts tell. learning kept at step marked (ap caller_number role) sized callers acts
-    (names_go view marked.now (reads_only view marked.now (ap is_writer idle)))
-    (λ next. LookedUp key found view next)
-    (reader_is idle) marked.told.1 told is (λ advances. tell _ refl role refl refl advances) in
+    (λ state kept at step marked. let found : ℕ = get_or kept.counted key 0 in
     by_cases
     (λ (_ : Bool). Choice shape id view (Load key) tells notes state kept step marked
     (λ next. LookedUp key found view next))
@@ -95,16 +85,13 @@ look_up_makes shape id me key near idle sized =
     (λ (b : Bool). cond {A = Marks} b (looked found)
     (acted (looked found) (put_number (kept.log ++ step.entries) key)))
     full in
-    let same_acts = ap (λ (m : Marks). m.acts) same in
-    choose
-    [] (subst (AreCallers shape) (sym is) tt) is
-    (acts_so view marked.now idle step.told.0 is (omega arith))
-    (λ next says role_is marks_are seen advances. record {
-      role = role_is;
-      says = says;
+    reads_on kept at step marked idle step.told.0 marked.told.1 is (omega (arith, ap (λ (m : Marks). m.acts) same))
+    (λ next. LookedUp key found view next) (λ _. tt) (λ advances. record {
+      role = step.told.0 ∙ sym idle;
+      says = refl;
       hole = λ empty. differ (is_filled found) _ full empty;
       named = λ _. advances;
-      marks = rw seen (marks_are ∙ marked.told.0);
+      marks = marked.told.0;
     }))
     (λ empty.
     let is : step.entries ≡ e ∷ [] = step.told.1 ∙ ap (λ (b : Bool). cond {A = List Entry} b [] (e ∷ [])) empty in
@@ -114,18 +101,13 @@ look_up_makes shape id me key near idle sized =
     (λ (b : Bool). cond {A = Marks} b (looked found)
     (acted (looked found) (put_number (kept.log ++ step.entries) key)))
     empty in
-    let one_act = ap (λ (m : Marks). m.acts) one in
-    choose (e ∷ [])
-    (reader_entry shape reader (model.Find key) _ step.entries is near
-    (reader_within shape id view Nothing state kept at idle) refl)
-    is
-    (acts_so view marked.now idle step.told.0 is (omega arith))
-    (λ next says role_is marks_are seen advances. record {
-      role = role_is;
-      says = says;
+    reads_on kept at step marked idle step.told.0 marked.told.1 is (omega (arith, ap (λ (m : Marks). m.acts) one))
+    (λ next. LookedUp key found view next) (λ within. ((near, inr (within, refl)), tt)) (λ advances. record {
+      role = step.told.0 ∙ sym idle;
+      says = refl;
       hole = λ _. advances;
       named = λ full. differ (is_filled found) _ full empty;
-      marks = rw seen (marks_are ∙ marked.told.0);
+      marks = marked.told.0;
     })))
 
 pub looks_up_so : (shape : Shape) (slots id : ℕ) (me : Me (Unit {0}) View) (key : ℕ) → key < shape.keys
@@ -240,40 +222,11 @@ saying_follows : (shape : Shape) (id : ℕ) (view : View) (operation : Operation
     (next : View) (says : ℕ)
     → Follows shape id view operation tells notes state kept step marked next
     → Follows shape id view operation tells notes state kept step marked (saying says next)
-saying_follows shape id view operation tells notes state kept step marked next says follows =
-    let fits = follows.fits in
-    record {
-      role = follows.role;
-      made = follows.made;
-      announcers = follows.announcers;
-      marks = follows.marks;
-      pasts = follows.pasts;
-      told_pasts = follows.told_pasts;
-      fits =
-          record {
-            begins = fits.begins;
-            told = fits.told;
-            own = fits.own;
-            knows_own = fits.knows_own;
-            acts = fits.acts;
-            sized = fits.sized;
-          };
-      callers = follows.callers;
-    }
+saying_follows shape id view operation tells notes state kept step marked next says follows = assumption follows
 
 -- and what its step told it stands
 saying_waits : (view next : View) (says : ℕ) → Waits view next → Waits view (saying says next)
-saying_waits view next says waits table =
-    let rests = waits table in
-    record {
-      table = rests.table;
-      number = rests.number;
-      seen = rests.seen;
-      mine = rests.mine;
-      steps_made = rests.steps_made;
-      pasts = rests.pasts;
-      loaded_ahead = rests.loaded_ahead;
-    }
+saying_waits view next says waits table = assumption (waits table)
 
 -- THE ANNOUNCEMENT, AND ITS END
 
@@ -449,9 +402,8 @@ confirms_named shape slots id own me key near has sized idle loud state kept at 
     let same : caller_number step.after ≡ reader = ap caller_number after in
     let rows_so : rows_held step.after ≡ rows = ap rows_held after in
     let slot_so : slot_held step.after ≡ slot = ap slot_held after in
-    let callers
-    = reader_entry shape reader (model.Find key) _ step.entries step.told.4 near
-    (reader_within shape id view Nothing state kept at idle) refl in
+    let callers : AreCallers shape step.entries
+    = rw step.told.4 ((near, inr (reader_within shape id view Nothing state kept at idle, refl)), tt) in
     let acts
     = acts_so view marked.now idle after step.told.4
     (let count = ap (λ (m : Marks). m.acts) marked.told.0 in omega arith) in

@@ -227,13 +227,10 @@ put_quiet false marks at slot rows word after log now news told = told.4
 went_quiet : (shape : Shape) (marks : Marks) (known : List Past) (desk : Desk) (place : Place) (word : ℕ) (after : Role)
     (log : List Entry)
     (now : Marks) (news : List Past) → went_marks shape marks known desk place word after log now news → news ≡ []
-went_quiet shape marks known desk Idle word after log now news told = told.1
-went_quiet shape marks known desk (Reading call slot got) word after log now news told = told.1
-went_quiet shape marks known desk (Leaving key) word after log now news told = told.1
-went_quiet shape marks known desk (Withdrawing key) word after log now news told = told.1
 went_quiet shape marks known desk (Searching call rows poll) word after log now news told = told.0
 went_quiet shape marks known desk (Putting call rows slot departed index) word after log now news told =
     put_quiet (nat_le index (2 * length rows)) marks (key_of call) slot rows word after log now news told
+went_quiet shape marks known desk other word after log now news told = told.1
 
 -- a list that is changed at one place
 changed_at : (l : List ℕ) (place x at n : ℕ) → get_or (set l place x) at 0 ≡ n → (get_or l at 0 ≡ n) ⊎ (x ≡ n)
@@ -265,15 +262,9 @@ went_names : (shape : Shape) (marks : Marks) (known : List Past) (desk : Desk) (
     → went_marks shape marks known desk place word after log now news → (key slot : ℕ)
     → get_or now.names key 0 ≡ suc slot
     → (get_or marks.names key 0 ≡ suc slot) ⊎ (get_or (heard_at place heard) slot 0 ≡ 0)
-went_names shape marks known desk Idle word after log now news heard told key slot is =
-    inl (ap (λ (m : Marks). get_or m.names key 0) (sym told.0) ∙ is)
-went_names shape marks known desk (Reading call named got) word after log now news heard told key slot is =
-    inl (ap (λ (m : Marks). get_or m.names key 0) (sym told.0) ∙ is)
 went_names shape marks known desk (Leaving at) word after log now news heard told key slot is =
     ⊎_elim inl (λ (e : 0 ≡ suc slot). absurd (omega arith))
     (changed_at marks.names at 0 key (suc slot) (ap (λ (m : Marks). get_or m.names key 0) (sym told.0) ∙ is))
-went_names shape marks known desk (Withdrawing at) word after log now news heard told key slot is =
-    inl (ap (λ (m : Marks). get_or m.names key 0) (sym told.0) ∙ is)
 went_names shape marks known desk (Searching call rows poll) word after log now news heard told key slot is =
     inl
     (ap (λ (l : List ℕ). get_or l key 0)
@@ -286,16 +277,14 @@ went_names shape marks known desk (Putting call rows mine departed index) word a
     ⊎_elim inl
     (λ (e : slot ≡ mine). inr (ap (λ (n : ℕ). get_or (set heard mine 0) n 0) e ∙ zero_at heard mine))
     (put_names (nat_le index (2 * length rows)) marks (key_of call) mine rows word after log now news told key slot is)
+went_names shape marks known desk other word after log now news heard told key slot is =
+    inl (ap (λ (m : Marks). get_or m.names key 0) (sym told.0) ∙ is)
 
 -- what the call of a place ends with
 ending_there : (place : Place) (step : Step) → if_not_busy place ≡ None
     → ending_at place step ≡ ending (call_at place) step
 ending_there Idle step busy = absurd (no_some (Some refuse.NotBusy) refuse.NotBusy refl busy)
-ending_there (Reading call slot got) step busy = refl
-ending_there (Leaving key) step busy = refl
-ending_there (Withdrawing key) step busy = refl
-ending_there (Searching call rows poll) step busy = refl
-ending_there (Putting call rows slot departed index) step busy = refl
+ending_there other step busy = refl
 
 -- a call that goes on ends with an entry of the writer's
 entries_there : (shape : Shape) (words : List ℕ) (roles : List Role) (log : List Entry) → Core shape words roles log

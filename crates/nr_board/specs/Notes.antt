@@ -4,8 +4,8 @@ use Rattle.atomic_table.specs.declared.shared.Seat.{Seat}
 use Rattle.nr_core.specs.declared.roles.Role.{Role}
 use Rattle.nr_core.specs.declared.roles.Role.TheVariants.{Note}
 use Rattle.nr_core.specs.Roles.{is_reader, is_writer}
-use Rattle.nr_core.specs.Marks.{no_marks, told_by}
-use Rattle.nr_board.specs.Views.{no_shape, View, view_of, carried_by}
+use Rattle.nr_core.specs.Marks.{told_by}
+use Rattle.nr_board.specs.Views.{View, view_of, carried_by, no_view}
 
 -- a writer or a reader, and no note
 abbrev pub IsCaller : Role → Type 0
@@ -16,43 +16,16 @@ abbrev pub has_noted : View → View
 has_noted view = record view { steps = view.steps + 1 }
 
 abbrev pub note_of : View → View
-note_of view =
-    record {
-      role = Note;
-      shape = view.shape;
-      announcers = view.announcers;
-      made = 0;
-      seen = view.seen;
-      told = [];
-      mine = [];
-      steps = 0;
-      marks = no_marks;
-      pasts = told_by view.role view.marks view.pasts;
-      told_pasts = [];
-      says = 0;
-      heard = [];
-      loaded_ahead = [];
-    }
+note_of view = record no_view {
+  shape = view.shape;
+  announcers = view.announcers;
+  seen = view.seen;
+  pasts = told_by view.role view.marks view.pasts;
+}
 
 -- a note that says again what the note told which the token took in last
 abbrev pub retold : View → View
-retold view =
-    record {
-      role = Note;
-      shape = view.shape;
-      announcers = view.announcers;
-      made = 0;
-      seen = view.told;
-      told = [];
-      mine = [];
-      steps = 0;
-      marks = no_marks;
-      pasts = view.told_pasts;
-      told_pasts = [];
-      says = 0;
-      heard = [];
-      loaded_ahead = [];
-    }
+retold view = record (note_of view) { seen = view.told; pasts = view.told_pasts }
 
 -- the seat of a note that nobody has taken in
 abbrev pub IsNote : Seat (Unit {0}) View → Type 0
@@ -68,21 +41,4 @@ with_note view note = has_noted (told_by_note view note)
 
 -- what is left of a note
 abbrev pub spent : View
-spent =
-    note_of
-    (record {
-      role = Note;
-      shape = no_shape;
-      announcers = 0;
-      made = 0;
-      seen = [];
-      told = [];
-      mine = [];
-      steps = 0;
-      marks = no_marks;
-      pasts = [];
-      told_pasts = [];
-      says = 0;
-      heard = [];
-      loaded_ahead = [];
-    })
+spent = note_of no_view

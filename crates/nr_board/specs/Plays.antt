@@ -254,12 +254,8 @@ has_gone step (before, _) found (after, _) = (desk : Desk) → before.role ≡ W
 
 -- the desk after a put
 abbrev pub put_place : Place → Place
-put_place Idle = Idle
-put_place (Reading call slot got) = Reading call slot got
-put_place (Leaving key) = Leaving key
-put_place (Withdrawing key) = Withdrawing key
-put_place (Searching call rows poll) = Searching call rows poll
 put_place (Putting call rows slot departures index) = Putting call rows slot departures (index + 1)
+put_place other = other
 
 abbrev pub next_put : Desk → Desk
 next_put desk = moved_to desk (put_place desk.place)

@@ -105,36 +105,13 @@ no_shape = record { keys = 0; slots = 0; readers = 0; first_count = 0; first_num
 abbrev pub no_plan : Plan
 no_plan = record { shape = no_shape; announcers = 0 }
 
--- the first token is the writer's
-abbrev pub opener : Plan → View
-opener plan =
+-- the view of a token that is no caller, and of no map
+abbrev pub no_view : View
+no_view =
     record {
-      role = Writer (opening_desk plan.shape);
-      shape = plan.shape;
-      announcers = plan.announcers;
-      made = 0;
-      seen = [];
-      told = [];
-      mine = [];
-      steps = 0;
-      marks = opening_marks plan.shape;
-      pasts = [];
-      told_pasts = [];
-      says = 0;
-      heard = replicate plan.shape.slots 0;
-      loaded_ahead = [];
-    }
-
--- the writer makes the next reader
-abbrev pub with_reader : View → View
-with_reader view = record view { made = view.made + 1 }
-
-abbrev pub next_reader : View → View
-next_reader view =
-    record {
-      role = Reader (view.made + 1) Nothing;
-      shape = view.shape;
-      announcers = view.announcers;
+      role = Note;
+      shape = no_shape;
+      announcers = 0;
       made = 0;
       seen = [];
       told = [];
@@ -147,3 +124,21 @@ next_reader view =
       heard = [];
       loaded_ahead = [];
     }
+
+-- the first token is the writer's
+abbrev pub opener : Plan → View
+opener plan = record no_view {
+  role = Writer (opening_desk plan.shape);
+  shape = plan.shape;
+  announcers = plan.announcers;
+  marks = opening_marks plan.shape;
+  heard = replicate plan.shape.slots 0;
+}
+
+-- the writer makes the next reader
+abbrev pub with_reader : View → View
+with_reader view = record view { made = view.made + 1 }
+
+abbrev pub next_reader : View → View
+next_reader view =
+    record no_view { role = Reader (view.made + 1) Nothing; shape = view.shape; announcers = view.announcers }
