@@ -25,7 +25,14 @@ stands {key = key} {words = words} is kept =
     subst (λ (board : Table). Stands board key words) is
     (record { key_is = kept.0; size = kept.1; some_key = kept.2; few = kept.3; fits = kept.4 })
 
+-- a token of the board's map stands at the board's table
+pub same_id : {mine shown board : Table} → mine ≡ board → shown ≡ board → mine.id ≡ shown.id
+same_id own is = ap (λ (t : Table). t.id) (own ∙ sym is)
+
 module _ {board : Table} {key : Shape} {words : ℕ} (stand : Stands board key words) where
+  pub own_shape : {mine : Table} → mine ≡ board → mine.shape ≡ key
+  own_shape own = ap (λ (t : Table). t.shape) own ∙ sym stand.key_is
+
   -- all places fit
   pub total_fits : total_of (layout board.shape) < 2 ^ 64
   total_fits = grind arith

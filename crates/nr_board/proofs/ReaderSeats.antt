@@ -33,30 +33,24 @@ use Rattle.nr_board.specs.Seats.{HoldsAt, IdlesAt}
 use Rattle.nr_board.specs.Views.{grip_of, is_sized, caller_number, rows_held, slot_held}
 
 module _ (table : Table) (before after : MapSeat) (same : after.table_id ≡ before.table_id) where
+  -- a reader that holds nothing still does
+  pub idles_on : (token after).table ≡ (token before).table → after.me.0.role ≡ before.me.0.role
+      → after.me.0.says ≡ before.me.0.says → IdlesAt table before → IdlesAt table after
+  idles_on own role says idles =
+      record { own = own ∙ idles.own; idle = subst IsIdle (sym role) idles.idle; silent = says ∙ idles.silent }
+
   pub asked_seat : (key found : ℕ) → IdlesAt table before → Asked key found before.me.0 after.me.0
       → IdlesAt table after × Gains 1 (model.Ask key) (token before) (token after) (ask_word found)
   asked_seat key found idles told =
-      let grows = seat_grows before after _ same told.gains in (
-        record {
-          own = grows.table ∙ idles.own;
-          idle = subst IsIdle (sym told.role) idles.idle;
-          silent = told.says ∙ idles.silent;
-        },
-        grows,
-      )
+      let grows = seat_grows before after _ same told.gains in
+      (idles_on grows.table told.role told.says idles, grows)
 
   pub hole_seat : (key found : ℕ) → IdlesAt table before → Arrived key found before.me.0 after.me.0
       → is_filled found ≡ false → IdlesAt table after × Gains 1 (model.Find key) (token before) (token after) reply.Hole
   hole_seat key found idles told empty =
       let hole = told.hole empty in
-      let grows = seat_grows before after _ same hole.1 in (
-        record {
-          own = grows.table ∙ idles.own;
-          idle = subst IsIdle (sym hole.0) idles.idle;
-          silent = told.says ∙ idles.silent;
-        },
-        grows,
-      )
+      let grows = seat_grows before after _ same hole.1 in
+      (idles_on grows.table hole.0 told.says idles, grows)
 
   pub held_seat : (key found : ℕ) → IdlesAt table before → Arrived key found before.me.0 after.me.0
       → is_filled found ≡ true

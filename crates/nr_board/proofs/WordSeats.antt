@@ -9,6 +9,7 @@ use Rattle.nr_core.specs.declared.roles.Role.TheVariants.{Reader}
 use Rattle.nr_core.specs.declared.shape.Shape.{Shape}
 use Rattle.nr_core.proofs.Choices.{by_cases}
 use Rattle.nr_board.proofs.Tokens.{MapSeat, seat_grows, seat_rests}
+use Rattle.nr_board.proofs.ReaderSeats.{idles_on}
 use Rattle.nr_board.specs.Callers.{Gains, Grows, Rests, Table, token}
 use Rattle.nr_core.specs.Marks.{Marks, acted, with_look}
 use Rattle.nr_core.specs.Puts.{put_number}
@@ -35,11 +36,7 @@ module _ (table : Table) (before after : MapSeat) (same : after.table_id ≡ bef
   pub looked_idle : (key found : ℕ) → IdlesAt table before → LookedUp key found before.me.0 after.me.0
       → IdlesAt table after
   looked_idle key found idles told =
-      record {
-        own = own_still key found told ∙ idles.own;
-        idle = subst IsIdle (sym told.role) idles.idle;
-        silent = told.says ∙ idles.silent;
-      }
+      idles_on table before after same (own_still key found told) told.role told.says idles
 
   pub looked_announces : (slot key found : ℕ) → AnnouncesAt table slot before
       → LookedUp key found before.me.0 after.me.0 → AnnouncesAt table slot after

@@ -286,82 +286,6 @@ ending_there : (place : Place) (step : Step) → if_not_busy place ≡ None
 ending_there Idle step busy = absurd (no_some (Some refuse.NotBusy) refuse.NotBusy refl busy)
 ending_there other step busy = refl
 
--- a call that goes on ends with an entry of the writer's
-entries_there : (shape : Shape) (words : List ℕ) (roles : List Role) (log : List Entry) → Core shape words roles log
-    → (id : ℕ) (desk : Desk)
-    → get_elem? roles id ≡ some (Writer desk) → (place : Place) → desk.place ≡ place → if_not_busy place ≡ None
-    → (found : ℕ)
-    → AreCallers shape (ending (call_at place) (went shape desk place found).1)
-entries_there shape words roles log core id desk there place is busy found =
-    go place busy
-    (subst (AtPlace shape words (map_after shape log) (held roles) desk.fresh desk.retired) is
-    (core.knows id (Writer desk) there).place)
-  where
-    near_call : (call : WriterCall) → key_of call < shape.keys → call_key (call_of call) < shape.keys
-    near_call call near = subst (λ (k : ℕ). k < shape.keys) (sym (key_same call)) near
-
-    of_set : (call : WriterCall) (rows : List Row) (step : Step)
-        → Wants shape words (map_after shape log) (held roles) call rows → AreCallers shape (ending (call_of call) step)
-    of_set call rows step wants =
-        writer_entries shape (call_of call) step (near_call call wants.near)
-        (wants_brings shape words (map_after shape log) (held roles) call rows wants)
-
-    go : (at : Place) → if_not_busy at ≡ None
-        → AtPlace shape words (map_after shape log) (held roles) desk.fresh desk.retired at
-        → AreCallers shape (ending (call_at at) (went shape desk at found).1)
-    go Idle idle stands = absurd (no_some (Some refuse.NotBusy) refuse.NotBusy refl idle)
-    go (Reading call slot got) busy reads =
-        reads_no_fill shape desk call slot (got ++ found ∷ []) (near_call call reads.near)
-    go (Leaving key) busy stands = ((stands.1.near, inl (refl, tt)), tt)
-    go (Withdrawing key) busy stands = ((stands.near, inl (refl, tt)), tt)
-    go (Searching call rows poll) busy stands =
-        of_set call rows (went shape desk (Searching call rows poll) found).1 stands.0
-    go (Putting call rows slot departed index) busy stands =
-        of_set call rows (went shape desk (Putting call rows slot departed index) found).1 stands.wants
-
--- the words of the key's set are read on, and a swap finds the key's word
-finds_so : (shape : Shape) (words : List ℕ) (roles : List Role) (log : List Entry) → Core shape words roles log
-    → (id : ℕ) (desk : Desk)
-    → get_elem? roles id ≡ some (Writer desk) → (marks : Marks)
-    → ((key : ℕ) → key < shape.keys → get_or marks.names key 0 ≡ name_number (get_or words key 0))
-    → (place : Place) → desk.place ≡ place
-    → Finds shape place (get_or words (target_of (going shape desk place)) 0) log marks
-finds_so shape words roles log core id desk there marks names place is =
-    go place
-    (subst (AtPlace shape words (map_after shape log) (held roles) desk.fresh desk.retired) is
-    (core.knows id (Writer desk) there).place)
-  where
-    swaps : (key : ℕ) → key < shape.keys → SwapsAt shape key (get_or words key 0) log marks
-    swaps key near =
-        record {
-          state = shows_kind shape words (get_or words key 0) (state_of (map_after shape log) key)
-              (core.shows key near);
-          name = names key near;
-        }
-
-    go : (at : Place) → AtPlace shape words (map_after shape log) (held roles) desk.fresh desk.retired at
-        → Finds shape at (get_or words (target_of (going shape desk at)) 0) log marks
-    go Idle stands = tt
-    go (Reading call slot got) reads = (
-      reads.rows,
-      read_set shape words roles log core (key_of call) slot got reads,
-      read_next shape words roles log
-          core (key_of call) slot got reads
-          ∙ ap (λ (n : ℕ). take n (encode reads.rows)) (let one : suc (length got) ≡ length got + 1 = omega arith in
-          one),
-      reads.more,
-      reads.number,
-      reads.full,
-    )
-    go (Leaving key) stands = swaps key stands.1.near
-    go (Withdrawing key) stands = swaps key stands.near
-    go (Searching call rows poll) stands = tt
-    go (Putting call rows slot departed index) stands =
-        by_cases (λ b. SwapsOrPuts b shape (key_of call) (get_or words
-        (target_of (cond {A = Operation} b (Store (content shape slot index) (get_or (encode rows) index 0))
-        (Swap (key_of call) (naming slot departed)))) 0) log marks) (nat_le index (2 * length rows))
-        (λ _. tt) (λ _. swaps (key_of call) stands.wants.near)
-
 -- the notes that are new among the polls tell readers as they are
 pub notes_so : (shape : Shape) (state : State (Unit {0}) View) (kept : Kept shape state) (polls now : List Past)
     → NotesPresent role_of marks_of state.views polls now → NotesTell kept.log polls now
@@ -384,53 +308,119 @@ Polls shape announcers heard operation =
     (slot : ℕ) × (announcers ≤ get_or heard slot 0) × (target_of operation ≡ departures shape slot)
     × ((word : ℕ) → becomes operation word ≡ word) × (slot < shape.slots)
 
--- a later step of a call is one of these
-going_on : (shape : Shape) (words : List ℕ) (roles : List Role) (log : List Entry) → Core shape words roles log
-    → (id : ℕ) (desk : Desk)
-    → get_elem? roles id ≡ some (Writer desk) → (announcers : ℕ) (heard : List ℕ) (place : Place) → desk.place ≡ place
-    → if_not_busy place ≡ None → PollsHeard announcers desk heard place
-    → OnPlain shape (going shape desk place) ⊎ Polls shape announcers heard (going shape desk place)
-going_on shape words roles log core id desk there announcers heard place is busy enough =
-    go place busy enough
-    (subst (AtPlace shape words (map_after shape log) (held roles) desk.fresh desk.retired) is
-    (core.knows id (Writer desk) there).place)
-  where
-    on_key : (key : ℕ) → key < shape.keys → (key < total_of (layout shape)) × IsNoCount shape key
-    on_key key near = (key_inside shape key near, key_no_count shape key near)
+-- what stands at the place of a call that goes on
+module
+    _ (shape : Shape) (words : List ℕ) (roles : List Role) (log : List Entry) (core : Core shape words roles log)
+    (id : ℕ) (desk : Desk) (there : get_elem? roles id ≡ some (Writer desk)) where
+  abbrev StandsAt : Place → Type 0
+  StandsAt = AtPlace shape words (map_after shape log) (held roles) desk.fresh desk.retired
 
-    on_content : (slot index : ℕ) → slot < shape.slots → index < slot_room shape
-        → (content shape slot index < total_of (layout shape)) × IsNoCount shape (content shape slot index)
-    on_content slot index near low = (content_inside shape slot index near low, content_no_count shape slot index low)
+  stands_now : StandsAt desk.place
+  stands_now = (core.knows id (Writer desk) there).place
 
-    go : (at : Place) → if_not_busy at ≡ None → PollsHeard announcers desk heard at
-        → AtPlace shape words (map_after shape log) (held roles) desk.fresh desk.retired at
-        → OnPlain shape (going shape desk at) ⊎ Polls shape announcers heard (going shape desk at)
-    go Idle idle _ stands = absurd (no_some (Some refuse.NotBusy) refuse.NotBusy refl idle)
-    go (Reading call slot got) busy _ reads =
-        let set = read_set shape words roles log core (key_of call) slot got reads in
-        let few = reads.more in
-        inl
-        (on_content slot (length got)
-        (named_inside shape words roles log core (key_of call) slot reads.near reads.names)
-        (omega (arith, set.1)))
-    go (Leaving key) busy _ stands = inl (on_key key stands.1.near)
-    go (Withdrawing key) busy _ stands = inl (on_key key stands.near)
-    go (Searching call rows poll) busy all stands =
-        inr (
-          (retired_at desk poll).slot,
-          all,
-          refl,
-          λ word. refl,
-          ((core.knows id (Writer desk) there).retired poll (retired_at desk poll)
-              (at_get desk.retired poll stands.1)).0,
-        )
-    go (Putting call rows slot departed index) busy _ stands =
-        on_test (λ (o : Operation). OnPlain shape o ⊎ Polls shape announcers heard o) (nat_le index (2 * length rows))
-        (λ low.
-        let few : index ≤ 2 * length rows = leb-true index (2 * length rows) low in
-        let short = stands.wants.row_set.1 in
-        inl (on_content slot index stands.inside (omega arith)))
-        (λ _. inl (on_key (key_of call) stands.wants.near))
+  -- a call that goes on ends with an entry of the writer's
+  entries_there : if_not_busy desk.place ≡ None → (found : ℕ)
+      → AreCallers shape (ending (call_at desk.place) (went shape desk desk.place found).1)
+  entries_there busy found = go desk.place busy stands_now
+    where
+      near_call : (call : WriterCall) → key_of call < shape.keys → call_key (call_of call) < shape.keys
+      near_call call near = subst (λ (k : ℕ). k < shape.keys) (sym (key_same call)) near
+
+      of_set : (call : WriterCall) (rows : List Row) (step : Step)
+          → Wants shape words (map_after shape log) (held roles) call rows
+          → AreCallers shape (ending (call_of call) step)
+      of_set call rows step wants =
+          writer_entries shape (call_of call) step (near_call call wants.near)
+          (wants_brings shape words (map_after shape log) (held roles) call rows wants)
+
+      go : (at : Place) → if_not_busy at ≡ None → StandsAt at
+          → AreCallers shape (ending (call_at at) (went shape desk at found).1)
+      go Idle idle stands = absurd (no_some (Some refuse.NotBusy) refuse.NotBusy refl idle)
+      go (Reading call slot got) busy reads =
+          reads_no_fill shape desk call slot (got ++ found ∷ []) (near_call call reads.near)
+      go (Leaving key) busy stands = ((stands.1.near, inl (refl, tt)), tt)
+      go (Withdrawing key) busy stands = ((stands.near, inl (refl, tt)), tt)
+      go (Searching call rows poll) busy stands =
+          of_set call rows (went shape desk (Searching call rows poll) found).1 stands.0
+      go (Putting call rows slot departed index) busy stands =
+          of_set call rows (went shape desk (Putting call rows slot departed index) found).1 stands.wants
+
+  -- the words of the key's set are read on, and a swap finds the key's word
+  finds_so : (marks : Marks)
+      → ((key : ℕ) → key < shape.keys → get_or marks.names key 0 ≡ name_number (get_or words key 0))
+      → Finds shape desk.place (get_or words (target_of (going shape desk desk.place)) 0) log marks
+  finds_so marks names = go desk.place stands_now
+    where
+      swaps : (key : ℕ) → key < shape.keys → SwapsAt shape key (get_or words key 0) log marks
+      swaps key near =
+          record {
+            state = shows_kind shape words (get_or words key 0) (state_of (map_after shape log) key)
+                (core.shows key near);
+            name = names key near;
+          }
+
+      go : (at : Place) → StandsAt at → Finds shape at (get_or words (target_of (going shape desk at)) 0) log marks
+      go (Reading call slot got) reads = (
+        reads.rows,
+        read_set shape words roles log core (key_of call) slot got reads,
+        read_next shape words roles log
+            core (key_of call) slot got reads
+            ∙ ap (λ (n : ℕ). take n (encode reads.rows)) (let one : suc (length got) ≡ length got + 1 = omega arith in
+            one),
+        reads.more,
+        reads.number,
+        reads.full,
+      )
+      go (Leaving key) stands = swaps key stands.1.near
+      go (Withdrawing key) stands = swaps key stands.near
+      go (Putting call rows slot departed index) stands =
+          by_cases (λ b. SwapsOrPuts b shape (key_of call) (get_or words
+          (target_of (cond {A = Operation} b (Store (content shape slot index) (get_or (encode rows) index 0))
+          (Swap (key_of call) (naming slot departed)))) 0) log marks) (nat_le index (2 * length rows))
+          (λ _. tt) (λ _. swaps (key_of call) stands.wants.near)
+      go other stands = tt
+
+  -- a later step of a call is one of these
+  going_on : (announcers : ℕ) (heard : List ℕ) → if_not_busy desk.place ≡ None
+      → PollsHeard announcers desk heard desk.place
+      → OnPlain shape (going shape desk desk.place) ⊎ Polls shape announcers heard (going shape desk desk.place)
+  going_on announcers heard busy enough = go desk.place busy enough stands_now
+    where
+      on_key : (key : ℕ) → key < shape.keys → (key < total_of (layout shape)) × IsNoCount shape key
+      on_key key near = (key_inside shape key near, key_no_count shape key near)
+
+      on_content : (slot index : ℕ) → slot < shape.slots → index < slot_room shape
+          → (content shape slot index < total_of (layout shape)) × IsNoCount shape (content shape slot index)
+      on_content slot index near low = (content_inside shape slot index near low, content_no_count shape slot index low)
+
+      go : (at : Place) → if_not_busy at ≡ None → PollsHeard announcers desk heard at → StandsAt at
+          → OnPlain shape (going shape desk at) ⊎ Polls shape announcers heard (going shape desk at)
+      go Idle idle _ stands = absurd (no_some (Some refuse.NotBusy) refuse.NotBusy refl idle)
+      go (Reading call slot got) busy _ reads =
+          let set = read_set shape words roles log core (key_of call) slot got reads in
+          let few = reads.more in
+          inl
+          (on_content slot (length got)
+          (named_inside shape words roles log core (key_of call) slot reads.near reads.names)
+          (omega (arith, set.1)))
+      go (Leaving key) busy _ stands = inl (on_key key stands.1.near)
+      go (Withdrawing key) busy _ stands = inl (on_key key stands.near)
+      go (Searching call rows poll) busy all stands =
+          inr (
+            (retired_at desk poll).slot,
+            all,
+            refl,
+            λ word. refl,
+            ((core.knows id (Writer desk) there).retired poll (retired_at desk poll)
+                (at_get desk.retired poll stands.1)).0,
+          )
+      go (Putting call rows slot departed index) busy _ stands =
+          on_test (λ (o : Operation). OnPlain shape o ⊎ Polls shape announcers heard o) (nat_le index (2 * length rows))
+          (λ low.
+          let few : index ≤ 2 * length rows = leb-true index (2 * length rows) low in
+          let short = stands.wants.row_set.1 in
+          inl (on_content slot index stands.inside (omega arith)))
+          (λ _. inl (on_key (key_of call) stands.wants.near))
 
 pub goes_so : (shape : Shape) (slots id : ℕ) (me : Me (Unit {0}) View) (desk : Desk) → me.0.role ≡ Writer desk
     → if_not_busy desk.place ≡ None → PollsHeard me.0.announcers desk me.0.heard desk.place
@@ -462,7 +452,7 @@ goes_so shape slots id me desk is busy heard in_order =
     (λ (polls : Polls shape view.announcers view.heard operation). sees_alone shape id view operation tells notes then
     polls.0 (ap is_writer is) polls.1 polls.2 polls.3 (λ _ _ _. polls.4) lent_stays state kept at step)
     (going_on shape kept.counted (map role_of state.views) kept.log core id desk there view.announcers view.heard
-    desk.place refl busy heard))
+    busy heard))
     (λ state kept at step marked.
     let found : ℕ = get_or kept.counted (target_of operation) 0 in let outcome = went shape desk desk.place found in
     let there : get_elem? (map role_of state.views) id ≡ some (Writer desk)
@@ -482,8 +472,7 @@ goes_so shape slots id me desk is busy heard in_order =
     let size = writer_shape shape kept.log view desk is (kept.fits id view at) in
     let entries : step.entries ≡ ending c outcome.1 = step.told.1 ∙ ending_there desk.place outcome.1 busy in
     let callers
-    = entries_there shape kept.counted (map role_of state.views) kept.log kept.core id desk there desk.place refl
-    busy found in
+    = entries_there shape kept.counted (map role_of state.views) kept.log kept.core id desk there busy found in
     let no_news
     = went_quiet shape view.marks view.pasts desk desk.place found step.after (kept.log ++ step.entries) marked.now
     marked.news marked.told in
@@ -505,7 +494,7 @@ goes_so shape slots id me desk is busy heard in_order =
           (entries ∙ ap (λ (s : Shape). ending c (went s desk desk.place found).1) (sym size));
       finds =
           rw size (finds_so shape kept.counted (map role_of state.views) kept.log kept.core id desk there view.marks
-          own.names desk.place refl);
+          own.names);
       notes = notes_so shape state kept view.marks.polls marked.now.polls marked.noted;
       marks =
           subst

@@ -218,15 +218,14 @@ IsFilled shape log key number rows = state_of (map_after shape log) key ≡ stat
 
 -- what a later step finds after that history: a read goes on with the words of the key's set
 abbrev pub Finds : Shape → Place → ℕ → List Entry → Marks → Type 0
-Finds shape Idle found log marks = Unit {0}
 Finds shape (Reading call slot got) found log marks =
     (rows : List Row) × IsRowSet (bound_of shape) rows × ReadsMore got found rows × (length got ≤ 2 * length rows)
     × (number : ℕ) × IsFilled shape log (key_of call) number rows
 Finds shape (Leaving key) found log marks = SwapsAt shape key found log marks
 Finds shape (Withdrawing key) found log marks = SwapsAt shape key found log marks
-Finds shape (Searching call rows poll) found log marks = Unit {0}
 Finds shape (Putting call rows slot departures index) found log marks =
     SwapsOrPuts (nat_le index (2 * length rows)) shape (key_of call) found log marks
+Finds shape other found log marks = Unit {0}
 
 -- each new note among the polls tells a reader as the history so far has it: it arrived at its finds, and departed from
 -- what it found but for what it holds

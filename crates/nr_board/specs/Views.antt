@@ -61,9 +61,8 @@ module _ {S V : Type 0} where
 
 -- the number of the caller; the writer's is 0
 abbrev pub caller_number : Role → ℕ
-caller_number (Writer desk) = 0
 caller_number (Reader reader grip) = reader
-caller_number Note = 0
+caller_number other = 0
 
 -- the writer's desk, and that of who has none
 abbrev pub no_desk : Desk
@@ -71,14 +70,12 @@ no_desk = record { place = Idle; fresh = 0; retired = []; numbers = [] }
 
 abbrev pub desk_of : Role → Desk
 desk_of (Writer desk) = desk
-desk_of (Reader reader grip) = no_desk
-desk_of Note = no_desk
+desk_of other = no_desk
 
 -- what a reader holds: the slot, the set that it found there, and whether it has read its size
 abbrev pub grip_of : Role → Grip
-grip_of (Writer desk) = Nothing
 grip_of (Reader reader grip) = grip
-grip_of Note = Nothing
+grip_of other = Nothing
 
 abbrev pub slot_gripped : Grip → ℕ
 slot_gripped Nothing = 0

@@ -1,5 +1,5 @@
 use Rattle.std.proofs.Common.{ap, sym, ◌∙◌}
-use Rattle.nr_board.proofs.BoardPlaces.{key_in, key_near, stands}
+use Rattle.nr_board.proofs.BoardPlaces.{key_in, key_near, same_id, stands}
 use Rattle.nr_board.proofs.ReaderSeats.{held_seat, hole_seat}
 use Rattle.nr_board.proofs.ReaderSteps.{arrives_so}
 use Rattle.nr_board.specs.Callers.{Table}
@@ -10,7 +10,7 @@ fetch_add-requires c =
     let shared = c.self.inside.table.shared in
     let board = stands c.self.view_is c.self.invariant in
     let seat = c.args.seat.now in (
-      ap (λ (t : Table). t.id) (c.requires.reader.own ∙ sym c.self.view_is),
+      same_id c.requires.reader.own c.self.view_is,
       key_in board c.requires.key,
       arrives_so shared.key.shape shared.table_id.slots seat.id seat.me c.args.key
           (key_near board c.requires.key) c.requires.reader.idle

@@ -1,5 +1,5 @@
 use Rattle.std.proofs.Common.{ap, arith, sym, ℕ, ◌∙◌, ◌<◌}
-use Rattle.nr_board.proofs.BoardPlaces.{said_at, said_in, stands}
+use Rattle.nr_board.proofs.BoardPlaces.{own_shape, said_at, said_in, same_id, stands}
 use Rattle.nr_board.proofs.WordSeats.{said_nothing, said_rests, said_word}
 use Rattle.nr_board.proofs.WordSteps.{holds_by_word, says_so}
 use Rattle.nr_board.specs.Callers.{Table}
@@ -14,12 +14,11 @@ store-requires c =
     let word = c.requires.word.within in
     let within : c.args.own.index < c.args.self.now.announcers
     = omega (arith, ap (λ (t : Table). t.announcers) c.requires.own) in
-    let is = c.requires.place within in
-    let shape_is = ap (λ (t : Table). t.shape) c.requires.own in (
-      ap (λ (t : Table). t.id) (c.requires.own ∙ sym c.self.view_is),
+    let is = c.requires.place within in (
+      same_id c.requires.own c.self.view_is,
       said_in board c.args.own.index within is,
       rw (said_at board c.args.own.index is)
-          (says_so shared.key.shape n seat.id c.args.own.index 0 seat.me c.requires.word (shape_is ∙ sym board.key_is)
+          (says_so shared.key.shape n seat.id c.args.own.index 0 seat.me c.requires.word (own_shape board c.requires.own)
           (holds_by_word c.args.self.now.shape shared.key.shape seat.me.0 (sym board.key_is) c.requires.free)),
     )
 

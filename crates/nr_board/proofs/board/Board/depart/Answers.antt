@@ -1,7 +1,7 @@
 use Rattle.std.proofs.Common.{ap, arith, sym, ℕ, ◌-◌, ◌∙◌, ◌≡◌}
 use Rattle.nr_core.specs.Slots.{departures}
 use Rattle.nr_core.specs.declared.shape.Shape.{Shape}
-use Rattle.nr_board.proofs.BoardPlaces.{departures_at, departures_in, stands}
+use Rattle.nr_board.proofs.BoardPlaces.{departures_at, departures_in, own_shape, same_id, stands}
 use Rattle.nr_board.proofs.ReaderSeats.{departed_seat}
 use Rattle.nr_board.proofs.ReaderSteps.{departs_so}
 use Rattle.nr_board.specs.Callers.{Table}
@@ -16,12 +16,12 @@ fetch_add-requires c =
     let reader = c.requires.reader in
     let slot : ℕ = slot_held seat.me.0.role in
     let before : c.args.begin - 1 ≡ departures c.args.self.now.shape slot = omega (arith, reader.begin_is) in (
-      ap (λ (t : Table). t.id) (reader.own ∙ sym c.self.view_is),
+      same_id reader.own c.self.view_is,
       departures_in board slot reader.holds.inside before,
       rw (departures_at board slot reader.holds.inside before)
           (departs_so shared.key.shape shared.table_id.slots seat.id seat.me reader.holds.is
           (omega (arith, reader.holds.inside, ap (λ (s : Shape). s.slots) board.key_is))
-          (ap (λ (t : Table). t.shape) reader.own ∙ sym board.key_is) c.requires.counted),
+          (own_shape board reader.own) c.requires.counted),
     )
 
 pub returns : goal.returns

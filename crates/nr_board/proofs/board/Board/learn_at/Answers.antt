@@ -1,5 +1,5 @@
 use Rattle.std.proofs.Common.{ap, sym, ◌∙◌}
-use Rattle.nr_board.proofs.BoardPlaces.{key_in, key_near, stands}
+use Rattle.nr_board.proofs.BoardPlaces.{key_in, key_near, same_id, stands}
 use Rattle.nr_board.proofs.Gathering.{learned_numbers, learns_seat}
 use Rattle.nr_board.proofs.Learning.{learns_so}
 use Rattle.nr_board.specs.Callers.{Table}
@@ -10,7 +10,7 @@ load-requires c =
     let shared = c.self.inside.table.shared in
     let board = stands c.self.view_is c.self.invariant in
     let seat = c.args.seat.now in (
-      ap (λ (t : Table). t.id) (c.requires.own ∙ sym c.self.view_is),
+      same_id c.requires.own c.self.view_is,
       key_in board c.requires.key,
       learns_so shared.key.shape seat.id seat.me c.args.key (key_near board c.requires.key) c.requires.caller
           shared.table_id.slots,

@@ -3,7 +3,7 @@ use Rattle.nr_core.specs.Given.{IsGivenCall}
 use Rattle.nr_core.specs.States.{key_of}
 use Rattle.nr_core.specs.declared.shape.Shape.{Shape}
 use Rattle.nr_board.proofs.WriterSeats.{looked_seat}
-use Rattle.nr_board.proofs.BoardPlaces.{key_in, key_near, stands}
+use Rattle.nr_board.proofs.BoardPlaces.{key_in, key_near, same_id, stands}
 use Rattle.nr_board.proofs.WriterSteps.{looks_so}
 use Rattle.nr_core.specs.declared.places.Place.{Place}
 use Rattle.nr_board.specs.Announcing.{heard_at}
@@ -23,7 +23,7 @@ load-requires g c =
     let given : IsGivenCall (bound_of shared.key.shape) call
     = subst (λ (s : Shape). IsGivenCall (bound_of s) call) (sym board.key_is) c.requires.given in
     let n : ℕ = shared.table_id.slots in (
-      ap (λ (t : Table). t.id) (writer.writes.own ∙ sym c.self.view_is),
+      same_id writer.writes.own c.self.view_is,
       key_in board c.requires.key,
       rw c.requires.call
           (looks_so shared.key.shape n seat.id seat.me writer.desk call writer.writes.role writer.place given near),

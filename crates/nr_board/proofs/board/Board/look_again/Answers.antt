@@ -1,6 +1,6 @@
 use Rattle.std.proofs.Common.{ap, arith, sym, ℕ, ◌∙◌, ◌≡◌}
 use Rattle.nr_core.specs.Slots.{content, names_slot}
-use Rattle.nr_board.proofs.BoardPlaces.{key_in, key_near, stands}
+use Rattle.nr_board.proofs.BoardPlaces.{key_in, key_near, own_shape, same_id, stands}
 use Rattle.nr_board.proofs.ReaderSeats.{again_exact, again_gains, again_holds, again_learns, again_marks, held_gripped}
 use Rattle.nr_board.proofs.ReaderSeats.{held_inside, held_slot}
 use Rattle.nr_board.proofs.ReaderSteps.{finds_again_so}
@@ -13,11 +13,11 @@ load-requires c =
     let shared = c.self.inside.table.shared in
     let board = stands c.self.view_is c.self.invariant in
     let seat = c.args.seat.now in (
-      ap (λ (t : Table). t.id) (c.requires.reader.own ∙ sym c.self.view_is),
+      same_id c.requires.reader.own c.self.view_is,
       key_in board c.requires.key,
       finds_again_so shared.key.shape shared.table_id.slots seat.id seat.me c.args.key
           (key_near board c.requires.key) c.requires.reader.holds.is
-          (ap (λ (t : Table). t.shape) c.requires.reader.own ∙ sym board.key_is),
+          (own_shape board c.requires.reader.own),
     )
 
 pub returns : goal.returns

@@ -1,6 +1,6 @@
 use Rattle.std.proofs.Common.{ap, sym, ◌∙◌}
 use Rattle.nr_core.specs.Slots.{name_number}
-use Rattle.nr_board.proofs.BoardPlaces.{key_in, stands}
+use Rattle.nr_board.proofs.BoardPlaces.{key_in, same_id, stands}
 use Rattle.nr_board.proofs.Notes.{ahead_token, looks_ahead_so}
 use Rattle.nr_board.specs.Callers.{Table}
 use Rattle.nr_board.specs.Views.{View}
@@ -8,7 +8,7 @@ use Rattle.nr_board.proofs.board.Board.look_ahead.Goals as goal
 
 pub load-requires : goal.load-requires
 load-requires c = let shared = c.self.inside.table.shared in let seat = c.args.seat.now in (
-  ap (λ (t : Table). t.id) (c.requires.own ∙ sym c.self.view_is),
+  same_id c.requires.own c.self.view_is,
   key_in (stands c.self.view_is c.self.invariant) c.requires.key,
   looks_ahead_so shared.key.shape shared.table_id.slots seat.id seat.me c.args.key,
 )

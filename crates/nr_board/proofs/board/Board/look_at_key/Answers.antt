@@ -1,5 +1,5 @@
 use Rattle.std.proofs.Common.{ap, sym, ◌∙◌}
-use Rattle.nr_board.proofs.BoardPlaces.{key_in, key_near, stands}
+use Rattle.nr_board.proofs.BoardPlaces.{key_in, key_near, own_shape, same_id, stands}
 use Rattle.nr_board.proofs.WordSeats.{looked_hole, looked_idle, looked_named}
 use Rattle.nr_board.proofs.WordSteps.{looks_up_so}
 use Rattle.nr_board.specs.Callers.{Table}
@@ -10,11 +10,11 @@ load-requires c =
     let shared = c.self.inside.table.shared in
     let board = stands c.self.view_is c.self.invariant in
     let seat = c.args.seat.now in (
-      ap (λ (t : Table). t.id) (c.requires.reader.own ∙ sym c.self.view_is),
+      same_id c.requires.reader.own c.self.view_is,
       key_in board c.requires.key,
       looks_up_so shared.key.shape shared.table_id.slots seat.id seat.me c.args.key
           (key_near board c.requires.key) c.requires.reader.idle
-          (ap (λ (t : Table). t.shape) c.requires.reader.own ∙ sym board.key_is),
+          (own_shape board c.requires.reader.own),
     )
 
 pub returns : goal.returns

@@ -5,7 +5,7 @@ use Rattle.nr_words.specs.Places.{Departures, place_of}
 use Rattle.nr_core.specs.States.{retired_at}
 use Rattle.nr_core.specs.declared.places.Place.TheVariants.{Searching}
 use Rattle.nr_board.proofs.PollNotes.{at_get}
-use Rattle.nr_board.proofs.BoardPlaces.{departures_at, departures_in, stands}
+use Rattle.nr_board.proofs.BoardPlaces.{departures_at, departures_in, same_id, stands}
 use Rattle.nr_board.proofs.WriterSeats.{desk_at, gone_seat}
 use Rattle.nr_board.proofs.WriterSteps.{goes_so}
 use Rattle.nr_board.specs.Callers.{Table}
@@ -40,7 +40,7 @@ load-requires c =
     let n : ℕ = shared.table_id.slots in
     let at = record polling.desk { place = Searching polling.call polling.rows polling.poll } in
     let place = departures_at board c.args.slot low is ∙ ap (departures shared.key.shape) polling.slot_is in (
-      ap (λ (t : Table). t.id) (polling.writes.own ∙ sym c.self.view_is),
+      same_id polling.writes.own c.self.view_is,
       departures_in board c.args.slot low is,
       rw place (goes_so shared.key.shape n seat.id seat.me at
           (desk_at seat.me.0.role polling.desk (Searching polling.call polling.rows polling.poll)

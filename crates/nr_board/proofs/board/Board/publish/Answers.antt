@@ -12,7 +12,7 @@ use Rattle.nr_core.specs.declared.places.Place.TheVariants.{Putting}
 use Rattle.nr_core.specs.declared.roles.Desk.{Desk}
 use Rattle.nr_core.specs.declared.roles.Role.TheVariants.{Writer}
 use Rattle.nr_board.proofs.WriterSeats.{desk_at, goes_on}
-use Rattle.nr_board.proofs.BoardPlaces.{key_in, stands}
+use Rattle.nr_board.proofs.BoardPlaces.{key_in, same_id, stands}
 use Rattle.nr_board.proofs.WriterSteps.{goes_so}
 use Rattle.nr_board.specs.Callers.{Table}
 use Rattle.nr_board.specs.Plays.{RoomAt, Went}
@@ -55,7 +55,7 @@ swap-requires c =
     (desk_at seat.me.0.role publishing.desk (Putting call rows slot c.args.departed last) publishing.writes.role
     publishing.place)
     refl tt tt) in (
-      ap (λ (t : Table). t.id) (publishing.writes.own ∙ sym c.self.view_is),
+      same_id publishing.writes.own c.self.view_is,
       key_in board c.requires.key,
       subst (λ (p : ℕ × ℕ). Allows (Kept shared.key.shape) n seat.id seat.me p.0 (λ _. p.1) told)
           (λ j. (sym publishing.key_is j, sym c.naming-word.ensures j)) allows,

@@ -2,7 +2,7 @@ use Rattle.std.proofs.Common.{ap, arith, subst, sym, ℕ, ◌∙◌, ◌≡◌}
 use Rattle.atomic_table.specs.Table.{Allows}
 use Rattle.nr_core.specs.declared.roles.Desk.{Desk}
 use Rattle.nr_core.specs.declared.roles.Role.TheVariants.{Writer}
-use Rattle.nr_board.proofs.BoardPlaces.{content_at, content_fits, content_in, stands}
+use Rattle.nr_board.proofs.BoardPlaces.{content_at, content_fits, content_in, same_id, stands}
 use Rattle.nr_board.proofs.WriterSeats.{put_seat}
 use Rattle.nr_board.proofs.WriterSteps.{puts_so}
 use Rattle.nr_board.specs.Callers.{Table}
@@ -28,7 +28,7 @@ store-requires c =
     let putting = c.requires in
     let room = subst (RoomAt c.args.self.now.shape putting.desk) putting.place putting.writes.room.place in
     let n : ℕ = shared.table_id.slots in (
-      ap (λ (t : Table). t.id) (putting.writes.own ∙ sym c.self.view_is),
+      same_id putting.writes.own c.self.view_is,
       content_in board putting.slot room.0 c.args.begin c.args.index putting.begin_is
           (omega (arith, putting.more, room.1.1)),
       subst

@@ -2,7 +2,7 @@ use Rattle.std.proofs.Common.{ap, arith, get_or, sym, ℕ, ◌+◌, ◌-◌, ◌
 use Rattle.nr_core.specs.Slots.{content}
 use Rattle.nr_core.specs.declared.shape.Shape.{Shape}
 use Rattle.nr_words.specs.SetWords.{encode}
-use Rattle.nr_board.proofs.BoardPlaces.{content_at, content_fits, content_in, stands}
+use Rattle.nr_board.proofs.BoardPlaces.{content_at, content_fits, content_in, own_shape, same_id, stands}
 use Rattle.nr_board.proofs.ReaderSeats.{read_seat}
 use Rattle.nr_board.proofs.ReaderSteps.{reads_so}
 use Rattle.nr_board.proofs.Rows.{length-encode}
@@ -31,13 +31,13 @@ load-requires c =
     let slot : ℕ = slot_held seat.me.0.role in
     let index : ℕ = c.args.index in
     let place = content_at board slot reader.holds.inside c.args.begin index reader.begin_is in (
-      ap (λ (t : Table). t.id) (reader.own ∙ sym c.self.view_is),
+      same_id reader.own c.self.view_is,
       content_in board slot reader.holds.inside c.args.begin index reader.begin_is
           (omega (arith, c.requires.index, reader.holds.row_set.1)),
       rw place (reads_so shared.key.shape shared.table_id.slots seat.id seat.me index reader.holds.is
           (omega (arith, reader.holds.inside, ap (λ (s : Shape). s.slots) board.key_is))
           (omega (arith, words, c.requires.index, reader.holds.row_set.1, ap (λ (s : Shape). s.rows) board.key_is))
-          c.requires.index (ap (λ (t : Table). t.shape) reader.own ∙ sym board.key_is)),
+          c.requires.index (own_shape board reader.own)),
     )
 
 pub returns : goal.returns

@@ -1,7 +1,7 @@
 use Rattle.std.proofs.Common.{ap, arith, refl, subst, sym, ℕ, ◌∙◌}
 use Rattle.nr_core.specs.Slots.{content}
 use Rattle.nr_core.specs.declared.places.Place.TheVariants.{Reading}
-use Rattle.nr_board.proofs.BoardPlaces.{content_at, content_fits, content_in, stands}
+use Rattle.nr_board.proofs.BoardPlaces.{content_at, content_fits, content_in, same_id, stands}
 use Rattle.nr_board.proofs.WriterSeats.{desk_at, goes_on}
 use Rattle.nr_board.proofs.WriterSteps.{goes_so}
 use Rattle.nr_board.specs.Callers.{Table}
@@ -30,7 +30,7 @@ load-requires c =
     ∙ ap (content shared.key.shape reading.slot) reading.index_is in
     let n : ℕ = shared.table_id.slots in
     let at = record reading.desk { place = Reading reading.call reading.slot reading.got } in (
-      ap (λ (t : Table). t.id) (reading.writes.own ∙ sym c.self.view_is),
+      same_id reading.writes.own c.self.view_is,
       content_in board reading.slot room.0 c.args.begin c.args.index reading.begin_is
           (omega (arith, reading.index_is, room.1)),
       rw place (goes_so shared.key.shape n seat.id seat.me at

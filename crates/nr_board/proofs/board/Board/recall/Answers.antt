@@ -1,7 +1,7 @@
 use Rattle.std.proofs.Common.{ap, arith, subst, sym, ℕ, ◌+◌, ◌<◌, ◌∙◌, ◌≡◌}
 use Rattle.nr_core.specs.Slots.{content}
 use Rattle.nr_core.specs.declared.shape.Shape.{Shape}
-use Rattle.nr_board.proofs.BoardPlaces.{content_in, stands}
+use Rattle.nr_board.proofs.BoardPlaces.{content_in, same_id, stands}
 use Rattle.nr_board.proofs.Recalling.{recalls_so}
 use Rattle.nr_board.specs.Callers.{Table}
 use Rattle.nr_board.proofs.board.Board.recall.Goals as goal
@@ -12,7 +12,7 @@ load-requires c =
     let board = stands c.self.view_is c.self.invariant in
     let seat = c.args.seat.now in
     let recalls = c.requires.recalls in (
-      ap (λ (t : Table). t.id) (recalls.own ∙ sym c.self.view_is),
+      same_id recalls.own c.self.view_is,
       content_in board c.args.slot recalls.inside c.content.result c.args.index c.content.ensures c.requires.index,
       recalls_so shared.key.shape shared.table_id.slots seat.id seat.me (c.content.result + c.args.index),
     )

@@ -3,7 +3,7 @@ use Rattle.nr_words.specs.KeyWords.{hole_word}
 use Rattle.nr_core.specs.States.{number_at}
 use Rattle.nr_core.specs.declared.places.Place.TheVariants.{Leaving}
 use Rattle.nr_board.proofs.WriterSeats.{desk_at, goes_on}
-use Rattle.nr_board.proofs.BoardPlaces.{key_in, stands}
+use Rattle.nr_board.proofs.BoardPlaces.{key_in, same_id, stands}
 use Rattle.nr_board.proofs.WriterSteps.{goes_so}
 use Rattle.nr_board.specs.Callers.{Table}
 use Rattle.nr_board.specs.Plays.{RoomAt}
@@ -19,7 +19,7 @@ swap-requires c =
     let room = subst (RoomAt c.args.self.now.shape leaving.desk) leaving.place leaving.writes.room.place in
     let word_is : hole_word c.args.number false ≡ hole_word (number_at leaving.desk c.args.key) false
     = ap (λ (n : ℕ). hole_word n false) leaving.number_is in (
-      ap (λ (t : Table). t.id) (leaving.writes.own ∙ sym c.self.view_is),
+      same_id leaving.writes.own c.self.view_is,
       key_in board room.0,
       rw (c.hole_word-hole.ensures.word ∙ word_is) (goes_so shared.key.shape shared.table_id.slots seat.id seat.me at
           (desk_at seat.me.0.role leaving.desk (Leaving c.args.key) leaving.writes.role leaving.place) refl tt tt),
