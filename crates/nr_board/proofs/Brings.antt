@@ -62,9 +62,7 @@ pub wants_brings : (shape : Shape) (words : List ℕ) (map : PartialMap) (hold :
     (rows : List Row)
     → Wants shape words map hold call rows → BringsRowSet shape.rows (call_of call)
 wants_brings shape words map hold (Fill key number new) rows wants =
-    subst (IsRowSet shape.rows)
-    (sym (fill_leaves (bound_of shape) key number new rows (state_of map key) wants.done wants.leaves))
-    wants.row_set
+    rw (fill_leaves (bound_of shape) key number new rows (state_of map key) wants.done wants.leaves) wants.row_set
 wants_brings shape words map hold (Replace key new) rows wants =
     subst (IsRowSet shape.rows) (sym (replace_leaves new rows (state_of map key) wants.done wants.leaves)) wants.row_set
 wants_brings shape words map hold other rows wants = tt

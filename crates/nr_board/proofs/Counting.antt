@@ -61,9 +61,7 @@ counted_plain shape by_word words counted place x low plain wide t = let room = 
 pub counted_load : (shape : Shape) (by_word : ℕ → ℕ) (words counted : List ℕ) (place : ℕ)
     → Counted shape by_word words counted
     → Counted shape by_word (set words place (get_or words place 0)) (set counted place (get_or counted place 0))
-counted_load shape by_word words counted place t =
-    subst (λ (p : List ℕ × List ℕ). Counted shape by_word p.0 p.1)
-    (λ j. (sym (set-get_or words place 0) j, sym (set-get_or counted place 0) j)) t
+counted_load shape by_word words counted place t = rw ((set-get_or words place 0), (set-get_or counted place 0)) t
 
 -- a departure is one in both, where fewer than 2 ^ 64 hold by their words
 pub counted_departure : (shape : Shape) (by_word : ℕ → ℕ) (words counted : List ℕ) (mine : ℕ) → mine < shape.slots

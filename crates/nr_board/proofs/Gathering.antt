@@ -79,8 +79,7 @@ pub just_calls : (log : List Entry) (caller : Caller) → StartsWith (entries_of
     → StartsWith caller.seen log × KnowsOwn caller → entries_of log caller.number ≡ caller.mine
 just_calls log caller calls heard =
     let his : List Entry → List Entry = λ l. entries_of l caller.number in let later = heard.0 in
-    let longer : his caller.seen ≡ his log ++ his later.rest
-    = ap his later.is ∙ of-append caller.number log later.rest in
+    let longer = ap his later.is ∙ of-append caller.number log later.rest in
     let none
     = nothing_more caller.mine calls.rest (his later.rest)
     (sym heard.1 ∙ longer ∙ ap (λ (l : List Entry). l ++ his later.rest) calls.is) in
@@ -144,8 +143,7 @@ pub learned_lists : (table : Table) (seat new : MapSeat) (at found : ℕ) → (t
     → Learned at found seat.me.0 new.me.0 → (desk : Desk) → seat.me.0.role ≡ Writer desk
     → Lists desk seat.me.0.marks table.shape new.me.0.seen
 learned_lists table seat new at found own learned desk is =
-    subst (λ (s : Shape). Lists desk seat.me.0.marks s new.me.0.seen) (λ j. (own j).shape)
-    (subst (λ r. LearnsOf r seat.me.0 new.me.0 learned.news) is learned.of_readers).1
+    rw (sym (λ j. (own j).shape)) (subst (λ r. LearnsOf r seat.me.0 new.me.0 learned.news) is learned.of_readers).1
 
 pub heard_numbers : (table : Table) (seat new : MapSeat) (note : View) → (token seat).table ≡ table
     → Learns 1 (token seat) (token new)
@@ -208,8 +206,7 @@ module _ (writer reader heard lent last told : MapSeat) (fresh : ℕ) (retired :
     of_reader = there;
     of_writer = back;
     all = ap (entries_of log) (sym learns.number) ∙ just_calls log (token told)
-        (subst (λ (p : ℕ × List Entry). StartsWith (entries_of log p.0) p.1)
-        (λ j. (sym learns.number j, sym learns.mine j)) meets.calls)
+        (rw (learns.number, learns.mine) meets.calls)
         (back.seen, learns.own) ∙ learns.mine;
     place = 0;
     known = known.known ∙ ap some one_is;

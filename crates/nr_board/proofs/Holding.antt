@@ -125,9 +125,7 @@ module _ (table : Table) (key word newer : ℕ) (before mid : MapSeat)
   named_is = filled_name newer first.filled
 
   apart : slot_of word ≢ slot_of newer
-  apart same =
-      let yes : names_slot (slot_of word) newer ≡ true
-      = eq-eqb (name_number newer) (suc (slot_of word)) (named_is ∙ ap suc (sym same)) in
+  apart same = let yes = eq-eqb (name_number newer) (suc (slot_of word)) (named_is ∙ ap suc (sym same)) in
       let no = first.other in
       absurd (cc)
 
@@ -145,9 +143,7 @@ module _ (table : Table) (key word newer : ℕ) (before mid : MapSeat)
       record {
         steps = 2 + n;
         named = named;
-        takes =
-            subst (TakesSteps true answer (suc (slot_of word) ∷ named))
-            (let same : 3 + n ≡ 1 + (2 + n) = omega arith in same) told.takes;
+        takes = rw (sym (let same : 3 + n ≡ 1 + (2 + n) = omega arith in same)) told.takes;
         answered =
             answered_later table key 2 n (2 + n) (looked marks key named) before mid after refl answer first.grows
             (rw (sym (ap (λ (m : Marks). looked m key told.named) marks_mid
@@ -223,12 +219,8 @@ moves_on table key word full before after answer holds told = let n : ℕ = told
           subst (λ (p : Bool × ℕ). TakesSteps true answer (cond {A = List ℕ} p.0 (p.1 ∷ []) [] ++ named) (1 + n))
           (λ j. (sym full j, sym named_is j)) told.takes;
       answered =
-          rw full (subst (λ (p : ℕ × Marks). IsAnswered table key p.0 (looked p.1 key named) before after answer)
-          (λ j. (
-            (let same : n ≡ 1 + n + 0 - 1 = omega arith in same) j,
-            held_marks table.shape before.me.0.role before.me.0.marks holds j,
-          ))
-          told.answered);
+          rw full (rw (held_marks table.shape before.me.0.role before.me.0.marks holds) at (rw ((let same : n ≡ 1 + n +
+          0 - 1 = omega arith in same)) at told.answered));
     }
 
 -- a reader that holds nothing looked, and found a hole, or goes on by its word

@@ -31,17 +31,13 @@ reads_first : (shape : Shape) (e : Entry) (log : List Entry) → IsCallers shape
     → (is_reading e.call ≡ true) × (entries_of log 0 ≡ [])
 reads_first shape e log is none = ⊎_elim
     (λ writes.
-    let here : e ∷ entries_of log 0 ≡ []
-    = sym (ap (λ (b : Bool). cond b (e ∷ entries_of log 0) (entries_of log 0)) (eq-eqb e.caller 0 writes.0))
+    let here = sym (ap (λ (b : Bool). cond b (e ∷ entries_of log 0) (entries_of log 0)) (eq-eqb e.caller 0 writes.0))
     ∙ none in
     absurd (cc))
     (λ reads. (
       reads.1,
       dite (ℕ_discrete e.caller 0)
           (λ writes.
-          let here : e ∷ entries_of log 0 ≡ []
-          = sym (ap (λ (b : Bool). cond b (e ∷ entries_of log 0) (entries_of log 0)) (eq-eqb e.caller 0 writes))
-          ∙ none in
           absurd (cc))
           (λ other. sym (entries_skip e log other) ∙ none),
     )) is.1
@@ -59,8 +55,7 @@ set_stays shape key number rows log [] near callers none had =
     ap (λ (l : List Entry). state_of (map_after shape l) key) (append-nil log) ∙ had
 set_stays shape key number rows log (e ∷ more) near callers none had =
     let first = reads_first shape e more callers.0 none in
-    let now : state_of (map_after shape (log ++ e ∷ [])) key ≡ states.Rows number rows
-    = dite (ℕ_discrete key (call_key e.call))
+    let now = dite (ℕ_discrete key (call_key e.call))
     (λ same. ap (state_of (map_after shape (log ++ e ∷ []))) same
     ∙ state_same shape log e (subst (λ (k : ℕ). k < shape.keys) same near)
     ∙ ap (state_after (bound_of shape) e.call) (ap (state_of (map_after shape log)) (sym same) ∙ had)
@@ -75,10 +70,8 @@ pub none_between : (steps : ℕ) (old : Caller) (entries : List Entry) (new : Ca
     → entries_of grows.between old.number ≡ []
 none_between steps old entries new own ours grows =
     let n : ℕ = old.number in
-    let all : entries_of new.seen n ≡ old.mine ++ entries
-    = (λ j. entries_of new.seen (sym grows.number j)) ∙ grows.own ∙ grows.mine in
-    let parts : entries_of new.seen n ≡ (old.mine ++ entries_of grows.between n) ++ entries
-    = ap (λ (l : List Entry). entries_of l n) grows.seen ∙ of-append n (old.seen ++ grows.between) entries
+    let all = (λ j. entries_of new.seen (sym grows.number j)) ∙ grows.own ∙ grows.mine in
+    let parts = ap (λ (l : List Entry). entries_of l n) grows.seen ∙ of-append n (old.seen ++ grows.between) entries
     ∙ (λ j. (of-append n old.seen grows.between j) ++ ours j)
     ∙ ap (λ (l : List Entry). (l ++ entries_of grows.between n) ++ entries) own in
     none_in (entries_of grows.between n)
@@ -110,11 +103,9 @@ pub stays_between : (shape : Shape) (key number : ℕ) (rows : List Row) (mid ne
     → state_of (map_after shape mid.seen) key ≡ states.Rows number rows
     → state_of (map_after shape (mid.seen ++ then.between)) key ≡ states.Rows number rows
 stays_between shape key number rows mid new steps entries sized near writes own ours then had =
-    let none : entries_of then.between 0 ≡ []
-    = ap (entries_of then.between) (sym writes)
+    let none = ap (entries_of then.between) (sym writes)
     ∙ none_between steps mid entries new own (ap (entries_of entries) writes ∙ ours) then in
-    let callers : AreCallers shape then.between
-    = callers_of_more shape mid.seen then.between (callers_before shape (mid.seen ++ then.between) entries
+    let callers = callers_of_more shape mid.seen then.between (callers_before shape (mid.seen ++ then.between) entries
     (subst (λ (p : Shape × List Entry). AreCallers p.0 p.1) (λ j. (sized j, then.seen j)) then.callers)) in
     set_stays shape key number rows mid.seen then.between near callers none had
 

@@ -157,8 +157,7 @@ module _ (shape : Shape) (id : ℕ) (me : Me (Unit {0}) View) (at : ℕ) (near :
         subst (λ r. LearnsOf r view next news) (sym is) (
           told.1,
           subst (λ (p : Shape × List Entry). Lists desk view.marks p.0 p.1) (λ j. (sym sized j, sym seen j)) told.2,
-          subst (λ (p : Shape × List Entry). AreNumbers p.0 (map_after p.0 p.1) desk.numbers)
-              (λ j. (sym sized j, sym seen j)) (numbers desk is),
+          rw (sized, seen) (numbers desk is),
         ),
       ))
   learns_as (Reader reader grip) is =

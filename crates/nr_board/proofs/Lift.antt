@@ -176,8 +176,7 @@ module _ (shape : Shape) (id : ℕ) (view : View) (operation : Operation) (tells
       = knowing_step role_of marks_of pasts_of told_pasts_of shape kept.counted views kept.log id view operation
       step.after step.entries
       notes at kept.pasts kept.told_pasts marked next follows.role follows.marks follows.pasts follows.told_pasts in
-      let roles : map role_of views' ≡ set (map role_of views) id step.after
-      = map-set role_of views id next ∙ ap (set (map role_of views) id) follows.role in
+      let roles = map-set role_of views id next ∙ ap (set (map role_of views) id) follows.role in
       let tally : (caller : ℕ) → total (counts caller) (map role_of views') ≡ total (counts caller) (map role_of views)
       = λ caller.
       let same : counts caller step.after ≡ counts caller view.role = ap (λ y. cond y 1 0) (step.same caller) in
@@ -312,8 +311,7 @@ numbered shape state kept id view at his = by_role view.role refl his
     by_role (Reader reader grip) is first =
         absurd
         (let marks
-        = subst (λ (r : Role). KnowsMarks role_of marks_of shape kept.counted state.views kept.log r view.marks)
-        is (kept.marked.each id view at) in
+        = rw is at (kept.marked.each id view at) in
         let low = marks.0 in
         let zero_is = eqb-true reader 0 first in
         omega arith)
@@ -362,12 +360,10 @@ module _ (shape : Shape) (id : ℕ) (view : View) (operation : Operation) (tells
       (kept.hears id view there writes) (let told = kept.told_of id view there (omega arith) in omega arith)
       (numbered shape state kept))
       kept.counts_words in
-      let same : get_or counted place 0 ≡ get_or words place 0
-      = ap (λ (p : ℕ). get_or counted p 0) at ∙ alone ∙ sym (ap (λ (p : ℕ). get_or words p 0) at) in (
+      let same = ap (λ (p : ℕ). get_or counted p 0) at ∙ alone ∙ sym (ap (λ (p : ℕ). get_or words p 0) at) in (
         record {
-          counts = subst (λ (p : ℕ × ℕ). Counted shape (lent state.views) (set words place p.0) (set counted place p.1))
-              (λ j. (sym (loads (get_or words place 0)) j, sym (loads (get_or counted place 0)) j))
-              (counted_load shape (lent state.views) words counted place kept.counts_words);
+          counts = rw ((loads (get_or words place 0)), (loads (get_or counted place 0))) (counted_load shape (lent
+          state.views) words counted place kept.counts_words);
           behind = λ own _. ap (λ (l : List ℕ). get_or l (says_at shape own) 0)
               (ap (set words place) (loads (get_or words place 0)) ∙ set-get_or words place 0);
         },

@@ -261,8 +261,7 @@ takes_so shape id view steps other note is state kept at apart beside =
     (heard_same state.views id view both at refl refl (λ _. (refl, refl)) kept.hears) (kept.told_of id view at)
     mine (kept.maker id view at) (kept.pasts id view at) (kept.pasts other note beside) in
     let beside_now = set_else state.views id other both apart ∙ beside in
-    let silent : spent.says ≡ note.says
-    = sym (taken.announced.wordless other note beside_now (λ own low. ap (is_by (suc own)) is)) in
+    let silent = sym (taken.announced.wordless other note beside_now (λ own low. ap (is_by (suc own)) is)) in
     replaced shape (record { words = state.words; homes = state.homes; views = views }) other note spent taken
     beside_now (sym is) (inr is) silent
     (heard_same views other note spent beside_now (sym is) silent

@@ -114,8 +114,7 @@ opens_so plan fits small = let shape = plan.shape in let view = opener plan in
       made = 0;
       readers = refl;
       fresh = λ caller later.
-          let none : cond (is_by caller view.role) 1 0 ≡ 0
-          = ap (λ (y : Bool). cond {A = ℕ} y 1 0) (ne_eqb 0 caller (λ e. omega arith)) in
+          let none = ap (λ (y : Bool). cond {A = ℕ} y 1 0) (ne_eqb 0 caller (λ e. omega arith)) in
           omega arith;
       silent = λ _ _. refl;
       marked =

@@ -101,37 +101,25 @@ module
       reaped = slice_set mid_lists.reaped slot false;
     }) where
   writes : WritesAt table (desk_with mid_lists (Putting call rows slot departed (2 * length rows + 1))) mid
-  writes =
-      subst
-      (λ (desk : Desk). WritesAt table (moved_to desk (Putting call rows slot departed (2 * length rows + 1))) mid)
-      (ap desk_of took.writes.role) writes_at
+  writes = rw (ap desk_of took.writes.role) at writes_at
 
   -- the swap publishes the set
   pub published : (put : PublishesSet table call rows before lists after after_lists) × (put.slot ≡ slot)
   published =
       let last : ℕ = 2 * length rows + 1 in let desk = desk_with mid_lists (Putting call rows slot departed last) in
       let told = goes desk writes.role in
-      let outcome : put_on desk call rows slot departed last found ≡ (swapped desk found, ended reply.Done)
-      = ap (λ (b : Bool). cond {A = Desk × Step} b
+      let outcome = ap (λ (b : Bool). cond {A = Desk × Step} b
       (moved_to desk (Putting call rows slot departed (last + 1)), Going) (swapped desk found, ended reply.Done))
       (lt-leb last (2 * length rows) (omega arith)) in
       let leads = subst (λ (o : Desk × Step). LeadsIn 1 table (call_of call) o mid after) outcome told.leads in
       let marks
-      = subst
-      (λ (b : Bool). PutsMarks b mid.me.0.marks (key_of call) slot rows found after.me.0.role after.me.0.seen
-      after.me.0.marks
-      [])
-      (lt-leb last (2 * length rows) (omega arith)) told.marks in
+      = rw (lt-leb last (2 * length rows) (omega arith)) at told.marks in
       let swaps
-      = subst (λ (b : Bool). SwapsOrPuts b table.shape (key_of call) found told.log mid.me.0.marks)
-      (lt-leb last (2 * length rows) (omega arith)) told.finds in
-      let only_polls : mid.me.0.marks
-      ≡ with_scan before.me.0.marks mid.me.0.marks.polls (before.me.0.marks.loads ++ took.loads)
-      = marks_stay ∙ took.marks
+      = rw (lt-leb last (2 * length rows) (omega arith)) at told.finds in
+      let only_polls = marks_stay ∙ took.marks
       ∙ ap (λ (m : Marks). with_scan before.me.0.marks m.polls (before.me.0.marks.loads ++ took.loads))
       (sym marks_stay) in
-      let same_names : get_or before.me.0.marks.names (key_of call) 0 ≡ get_or mid.me.0.marks.names (key_of call) 0
-      = ap (λ (m : Marks). get_or m.names (key_of call) 0) (sym only_polls) in (
+      let same_names = ap (λ (m : Marks). get_or m.names (key_of call) 0) (sym only_polls) in (
         record {
           slot = slot;
           inside = writes.room.place.0;
@@ -174,8 +162,7 @@ module
   pub flags_published : {flags : List Bool} → IsFlagged table lists.retired at.me.0.heard flags
       → IsFlagged table after_lists.retired after.me.0.heard (slice_set flags slot true)
   flags_published {flags = flags} flagged =
-      subst (λ (l : List Retired). IsFlagged table l after.me.0.heard (slice_set flags slot true))
-      (sym (ap (λ (s : SlotLists). s.retired) retires))
+      rw (ap (λ (s : SlotLists). s.retired) retires)
       (flags_put table lists.retired (mid_lists.retired ++ unnamed found) at.me.0.heard after.me.0.heard flags slot
       flagged ((goes _ writes.role).heard ∙ heard)
       (fewer_retired table before.me.0.heard at.me.0.heard took.loads slot took.steps lists mid_lists (unnamed found)

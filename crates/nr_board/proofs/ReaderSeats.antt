@@ -119,8 +119,7 @@ held_inside slot holds = omega (arith, held_slot slot holds, holds.holds.inside)
 -- what it holds by its word is the slot that this says
 pub held_says : (table : Table) (held : Held) (seat : MapSeat) → HeldAs table held seat → HoldsWhatItSays (token seat)
 held_says table held seat so loud =
-    let slot : held.slot ≡ slot_held seat.me.0.role
-    = same_content table.shape held.slot 0 (slot_held seat.me.0.role) 0 (omega arith) (omega arith)
+    let slot = same_content table.shape held.slot 0 (slot_held seat.me.0.role) 0 (omega arith) (omega arith)
     (sym so.begin_is ∙ so.holds.begin_is) in
     so.says ∙ so.said (omega (arith, loud, so.says))
     ∙ ap suc (slot ∙ sym (ap (λ (r : Role). slot_in (gripped (grip_of r))) so.holds.holds.is))
@@ -177,8 +176,7 @@ module _ (table : Table) (before after : MapSeat) (same : after.table_id ≡ bef
       let held : ℕ = slot_held before.me.0.role in
       let put : ℕ = before.me.0.marks.put in
       let Compares : Bool → Type 0 = λ b. ComparesPuts b found put (put_number after.me.0.seen key) in
-      let kind_is : kind_shown found ≡ kind_of (state_of (map_seen (token after)) key)
-      = told.kind
+      let kind_is = told.kind
       ∙ ap (λ (t : Table). kind_of (state_of (map_after t.shape after.me.0.seen) key)) (sym own_table) in
       let compares : Compares answer = subst Compares names told.put in (
         (λ yes. (

@@ -69,9 +69,7 @@ pub reader_within : (shape : Shape) (id : ℕ) (view : View) (grip : Grip) (stat
     (kept : Kept shape state)
     → get_elem? state.views id ≡ some view → view.role ≡ Reader (caller_number view.role) grip
     → caller_number view.role ≤ shape.readers
-reader_within shape id view grip state kept at is =
-    (subst (λ r. KnowsMarks role_of marks_of shape kept.counted state.views kept.log r view.marks) is
-    (kept.marked.each id view at)).1
+reader_within shape id view grip state kept at is = (rw is at (kept.marked.each id view at)).1
 
 -- the reader's count, by its hold before and after
 pub acts_so : (view : View) (marks : Marks) {after : Role} {entries told : List Entry} {number other : ℕ}
@@ -247,8 +245,7 @@ finds_again_so shape slots id me key near is sized =
     let notes = FindsAgainMarks view.marks slot key in
     let e = entry reader (model.Find key) (reply.Rows rows) in
     lifts shape id view (Load key) tells notes slots me.1 (λ found next. FoundAgain key found view next) view.pasts
-    (subst (λ r. CanStep shape id r (Load key) tells) (sym is)
-    (finds_again shape id reader slot rows sized_so key near))
+    (rw is (finds_again shape id reader slot rows sized_so key near))
     (finds_again_marked role_of marks_of shape id view view.pasts reader slot key rows sized_so near is)
     (knows_pasts shape id view)
     (sees_plain shape id view (Load key) tells notes (λ found next. FoundAgain key found view next)
@@ -259,8 +256,7 @@ finds_again_so shape slots id me key near is sized =
     let inside : (other : ℕ) → name_number found ≡ suc other → other < view.shape.slots
     = λ other so. subst (λ (s : Shape). other < s.slots) (sym sized) (step.told.2 other so) in
     let log : List Entry = kept.log ++ step.entries in
-    let kind : kind_shown found ≡ kind_of (state_of (map_after view.shape log) key)
-    = sym (ap (λ (l : List ℕ). kind_shown (get_or l key 0)) (set-get_or kept.counted key 0))
+    let kind = sym (ap (λ (l : List ℕ). kind_shown (get_or l key 0)) (set-get_or kept.counted key 0))
     ∙ shows_kind shape (set kept.counted key found) (get_or (set kept.counted key found) key 0)
     (state_of (map_after shape log) key) (step.core.shows key near)
     ∙ ap (λ (s : Shape). kind_of (state_of (map_after s log) key)) (sym sized) in
@@ -269,10 +265,8 @@ finds_again_so shape slots id me key near is sized =
     (λ next. FoundAgain key found view next))
     names
     (λ yes.
-    let is_told : step.entries ≡ e ∷ []
-    = step.told.1 ∙ ap (λ (b : Bool). cond {A = List Entry} b (e ∷ []) []) yes in
-    let count : marked.now.acts ≡ suc (suc view.marks.acts)
-    = ap (λ (m : Marks). m.acts) marked.told.0
+    let is_told = step.told.1 ∙ ap (λ (b : Bool). cond {A = List Entry} b (e ∷ []) []) yes in
+    let count = ap (λ (m : Marks). m.acts) marked.told.0
     ∙ ap (λ (b : Bool). (found_again b (with_look view.marks key (name_number found))).acts) yes in
     reads_on kept at step marked is step.told.0 marked.told.1 is_told (omega arith)
     (λ next. FoundAgain key found view next) (λ within. ((near, inr (within, refl)), tt)) (λ advances. record {
@@ -286,8 +280,7 @@ finds_again_so shape slots id me key near is sized =
       says = refl;
     }))
     (λ no. let is_told : step.entries ≡ [] = step.told.1 ∙ ap (λ (b : Bool). cond {A = List Entry} b (e ∷ []) []) no in
-    let count : marked.now.acts ≡ view.marks.acts
-    = ap (λ (m : Marks). m.acts) marked.told.0
+    let count = ap (λ (m : Marks). m.acts) marked.told.0
     ∙ ap (λ (b : Bool). (found_again b (with_look view.marks key (name_number found))).acts) no in
     reads_on kept at step marked is step.told.0 marked.told.1 is_told (omega arith)
     (λ next. FoundAgain key found view next) (λ _. tt) (λ advances. record {

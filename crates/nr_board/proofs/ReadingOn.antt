@@ -106,8 +106,7 @@ module _ (table : Table) (call : WriterCall) (begin : ℕ) (before : MapSeat) wh
   reads_last : (slot : ℕ) (rows : List Row) → IsRowSet (bound_of table.shape) rows
       → reads_on table desk call slot rows (2 * length rows + 1) ≡ decided table.shape desk call rows
   reads_last slot rows row_set = let all = encode rows in
-      let whole : take (2 * length rows + 1) all ≡ all
-      = take_all (2 * length rows + 1) all (omega (arith, length-encode rows)) in
+      let whole = take_all (2 * length rows + 1) all (omega (arith, length-encode rows)) in
       ap
       (λ (got : List ℕ). cond {A = Desk × Step} (nat_eq (length got) (2 * get_or got 0 0 + 1))
       (decoded table.shape desk call (decode got)) (moved_to desk (Reading call slot got), Going))
@@ -144,8 +143,7 @@ module _ (table : Table) (call : WriterCall) (begin : ℕ) (before : MapSeat) wh
       → after.me.0.heard ≡ before.me.0.heard
       → (rows_named table call after ≡ rows) × ReadTo table call begin before after words
   read_so slot rows words after begin_is row_set near some few leads had marks heard =
-      let named : rows_named table call after ≡ rows
-      = ap rows_of_state (still_named slot rows words after row_set near some few had) in (
+      let named = ap rows_of_state (still_named slot rows words after row_set near some few had) in (
         named,
         record {
           near = near;
@@ -225,23 +223,18 @@ module _ (table : Table) (call : WriterCall) (begin : ℕ) (before : MapSeat) wh
         let own_table = ap (λ (t : Table). t.shape) leads_here.writes.own in
         let had
         = still_named so_far.slot rows words mid so_far.row_set so_far.near so_far.positive so_far.few so_far.had in
-        let log_is : told.log ≡ mid.me.0.seen ++ then.between
-        = append_cancel_right told.log (mid.me.0.seen ++ then.between) e (sym told.seen ∙ then.seen) in
-        let had_then : state_of (map_after table.shape told.log) (key_of call) ≡ states.Rows so_far.had.number rows
-        = ap (λ (l : List Entry). state_of (map_after table.shape l) (key_of call)) log_is
+        let log_is = append_cancel_right told.log (mid.me.0.seen ++ then.between) e (sym told.seen ∙ then.seen) in
+        let had_then = ap (λ (l : List Entry). state_of (map_after table.shape l) (key_of call)) log_is
         ∙ stays_between table.shape (key_of call) so_far.had.number rows (token mid) (token after) 1 e own_table
         so_far.near (ap caller_number leads_here.writes.role) leads_here.grows.own (ending_own (call_of call) _)
         then had in
         let same : on.0 ≡ rows = ap rows_of_state (sym on.5 ∙ had_then) in
-        let words_are : got ++ found ∷ [] ≡ take (words + 1) (encode rows)
-        = on.2 ∙ (λ j. take (length-got j + 1) (encode (same j))) in
+        let words_are = on.2 ∙ (λ j. take (length-got j + 1) (encode (same j))) in
         let so
         = read_so so_far.slot rows (words + 1) after so_far.begin_is so_far.row_set so_far.near (omega arith)
         (omega (arith, left))
         (let leads
-        = subst
-        (λ (l : List ℕ). LeadsIn 1 table (call_of call) (read_on table.shape desk call so_far.slot l) mid after)
-        words_are told.leads in
+        = rw words_are at told.leads in
         record {
           writes = leads.writes;
           grows = grows_both refl leads_here.grows leads.grows;
@@ -286,8 +279,7 @@ module _ (table : Table) (call : WriterCall) (begin : ℕ) (before : MapSeat) wh
     read_row second after goes_on =
         let one = read_next mid (2 * place + 1) so_far left_two first half goes in
         let two = read_next half (2 * place + 1 + 1) one.2 left_one second after goes_on in
-        let second_is : second ≡ get_or (encode (rows_named table call mid)) (2 * place + 2) 0
-        = two.1 ∙ (λ j. get_or (encode (one.0 j)) (next j) 0) in (
+        let second_is = two.1 ∙ (λ j. get_or (encode (one.0 j)) (next j) 0) in (
           two.0 ∙ one.0,
           encoded_row (rows_named table call mid) place more
               ∙ (λ j. Some (record { a = sym one.1 j; b = sym second_is j })),
@@ -309,22 +301,16 @@ module _ (table : Table) (call : WriterCall) (begin : ℕ) (before : MapSeat) wh
       → ReadsAll table call rows before last
   reads_all mid last other_before other count rows size rows_are same own begun read =
       let all
-      = subst (λ (p : Table × MapSeat). ReadTo p.0 call begin p.1 last (2 * count + 1)) (λ j. (own j, begun j))
-      read in
-      let named : rows_named table call last ≡ rows
-      = ap (λ (t : Table). rows_named t call last) (sym own) ∙ same ∙ sym rows_are in
+      = rw begun at (rw own at read) in
+      let named = ap (λ (t : Table). rows_named t call last) (sym own) ∙ same ∙ sym rows_are in
       let row_set : IsRowSet (bound_of table.shape) rows = subst (IsRowSet (bound_of table.shape)) named all.row_set in
       let length_is : count ≡ length rows = size ∙ ap length (sym rows_are) in
-      let outcome : reads_on table desk call all.slot (rows_named table call last) (2 * count + 1)
-      ≡ decided table.shape desk call
-      rows =
+      let outcome =
       (λ j. reads_on table desk call all.slot (named j) (2 * (length_is j) + 1))
       ∙ reads_last all.slot rows row_set in
       record {
         row_set = row_set;
-        leads =
-            subst (λ (p : ℕ × (Desk × Step)). LeadsIn (2 * p.0 + 1) table (call_of call) p.1 before last)
-            (λ j. (length_is j, outcome j)) all.leads;
+        leads = rw (sym length_is, sym outcome) all.leads;
         had =
             subst (λ (p : List Row × (Desk × Step)). KeyHas table call p.0 p.1.1 last) (λ j. (named j, outcome j))
             all.had;

@@ -32,10 +32,8 @@ recalls_so shape slots id me place state kept homes at bounded =
         step = refl;
         finds = λ desk slot index is near untouched there.
             let mine
-            = subst (λ (r : Role). KnowsMarks role_of marks_of shape kept.counted state.views kept.log r view.marks)
-            is (kept.marked.each id view at) in
-            let size : view.shape ≡ shape
-            = fits.sized (let one : is_writer view.role ≡ 1 = ap is_writer is in omega arith) in
+            = rw is at (kept.marked.each id view at) in
+            let size = fits.sized (let one : is_writer view.role ≡ 1 = ap is_writer is in omega arith) in
             subst
             (λ (s : Shape). slot < s.slots → place ≡ content s slot index
             → IsWordOf (bound_of s) (set_in view.marks slot) index found)

@@ -50,8 +50,7 @@ module _ (shape : Shape) (words : List ℕ) (roles : List Role) (log : List Entr
       go (Withdrawing key) is stands = (
         stands.near,
         (let early = stands.early in
-            let listed : number_at desk key ≡ stands.number
-            = mine.numbers.agree key stands.near ∙ ap number_of stands.asked in
+            let listed = mine.numbers.agree key stands.near ∙ ap number_of stands.asked in
             omega arith),
       )
       go (Searching call rows poll) is stands = stands.1

@@ -41,8 +41,7 @@ seats_so shape id view writes few state kept at =
     let next = next_reader view in
     let roles = map role_of views in
     let views' = set views id left ++ next ∷ [] in
-    let kept_roles : map role_of (set views id left) ≡ roles
-    = map-set role_of views id left ∙ set_again roles id view.role (at_map role_of views id view at) in
+    let kept_roles = map-set role_of views id left ∙ set_again roles id view.role (at_map role_of views id view at) in
     let more : map role_of views' ≡ roles ++ next.role ∷ []
     = map-append role_of (set views id left) (next ∷ []) ∙ ap (λ (l : List Role). l ++ next.role ∷ []) kept_roles in
     let made : view.made ≡ kept.made = kept.maker id view at writes in let fits = kept.fits id view at in

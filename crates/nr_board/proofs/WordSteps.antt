@@ -79,8 +79,7 @@ look_up_makes shape id me key near idle sized =
     (λ next. LookedUp key found view next))
     (is_filled found)
     (λ full. let is : step.entries ≡ [] = step.told.1 ∙ ap (λ (b : Bool). cond {A = List Entry} b [] (e ∷ [])) full in
-    let same : marked.now ≡ looked found
-    = marked.told.0
+    let same = marked.told.0
     ∙ ap
     (λ (b : Bool). cond {A = Marks} b (looked found)
     (acted (looked found) (put_number (kept.log ++ step.entries) key)))
@@ -95,8 +94,7 @@ look_up_makes shape id me key near idle sized =
     }))
     (λ empty.
     let is : step.entries ≡ e ∷ [] = step.told.1 ∙ ap (λ (b : Bool). cond {A = List Entry} b [] (e ∷ [])) empty in
-    let one : marked.now ≡ acted (looked found) (put_number (kept.log ++ step.entries) key)
-    = marked.told.0
+    let one = marked.told.0
     ∙ ap
     (λ (b : Bool). cond {A = Marks} b (looked found)
     (acted (looked found) (put_number (kept.log ++ step.entries) key)))
@@ -298,8 +296,7 @@ module _ (shape : Shape) (slots id own says : ℕ) (me : Me (Unit {0}) View) (ha
       (marked.told.0 ∙ sym (ap (λ r. let_go (grip_of r) view.marks) idle))
       (acts_so view marked.now idle (step.told.0 ∙ idle) step.told.1
       (let same = ap (λ (m : Marks). m.acts) marked.told.0 in omega arith))
-      (λ next lends_none. subst (Counted shape (lent (set state.views id next)) state.words)
-      (sym (set-get_or kept.counted 0 0))
+      (λ next lends_none. rw (set-get_or kept.counted 0 0)
       (counted_same shape (lent state.views) (lent (set state.views id next)) state.words kept.counted
       (λ slot.
       let before : lends slot view ≡ 0 = idle_lends view (λ s. ap (holds s) idle) slot in
@@ -363,8 +360,7 @@ named_unheard shape state kept other writer there writes key slot near names = b
   where
     by_role : (role : Role) → writer.role ≡ role → get_or writer.heard slot 0 ≡ 0
     by_role (Writer desk) is = (kept.hears other writer there writes).unheard key slot
-        ((subst (λ (r : Role). KnowsMarks role_of marks_of shape kept.counted state.views kept.log r writer.marks) is
-        (kept.marked.each other writer there)).names
+        ((rw is at (kept.marked.each other writer there)).names
         key near
         ∙ names)
     by_role (Reader reader grip) is = absurd (let none_writes = ap is_writer is in omega arith)

@@ -107,8 +107,7 @@ pub has_set : {table : Table} {lists : SlotLists} {steps : ℕ} {call : WriterCa
 has_set {table = table} {lists = lists} {steps = steps} {call = call} {rows = rows} {before = before} {mid = mid} rests
     leads marks heard =
     let grows
-    = subst (λ (es : List Entry). Grows steps es (token before) (token mid))
-    (settled_quiet table.shape (desk_with lists Idle) call rows (call_of call)) leads.grows in
+    = rw (settled_quiet table.shape (desk_with lists Idle) call rows (call_of call)) at leads.grows in
     record {
       rests = rests;
       settles = record {
@@ -178,11 +177,7 @@ module _ {table : Table} {lists : SlotLists} {steps : ℕ} {call : WriterCall} {
           mid = published.mid;
           scanned = published.scanned;
           loads = published.loads;
-          took =
-              subst
-              (λ (p : Table × List ℕ × SlotLists). TookBySearch p.0 p.1 published.scanned published.loads
-              published.slot published.steps p.2 published.mid)
-              (λ j. (own_table j, set.heard j, own_lists j)) published.took;
+          took = rw own_lists at (rw set.heard at (rw own_table at published.took));
           heard = published.heard;
           few = subst (λ (t : Table). AreFewSteps t published.steps) own_table published.few;
           fresh = ap (λ (s : SlotLists). s.fresh) (lists_after ∙ published.retires);
@@ -228,24 +223,13 @@ module _ {table : Table} {lists : SlotLists} {steps : ℕ} {call : WriterCall} {
         record {
           searched = lacking.steps;
           loads = lacking.loads;
-          all =
-              subst
-              (λ (p : Table × List ℕ × List Retired). SearchedAll p.0 p.1 after.me.0.heard lacking.loads p.2
-              lacking.steps)
-              (λ j. (own_table j, set.heard j, retired_are j)) lacking.searched;
+          all = rw retired_are at (rw set.heard at (rw own_table at lacking.searched));
           grows = all;
           readers = none_between (steps + lacking.steps) (token before) [] (token after) set.rests.own refl all;
           lacks = lacking.lacks;
-          noted = λ counted. subst (λ (p : Table × List Past). Noted p.0.shape p.1 after.me.0.marks.polls)
-              (λ j. (own_table j, set.grows.pasts j))
-              (lacking.noted (ap (λ (t : Table). t.announcers) own_table ∙ counted));
-          kept =
-              subst
-              (λ (p : Table × List Retired). KeptBack p.0.shape.readers before.me.0.seen after.me.0.seen
-              lacking.loads p.1
-              after.me.0.marks.polls)
-              (λ j. (own_table j, retired_are j))
-              (kept_since (grows_from set.grows) lacking.kept);
+          noted = λ counted. rw set.grows.pasts at (rw own_table at (lacking.noted (ap (λ (t : Table). t.announcers)
+          own_table ∙ counted)));
+          kept = rw retired_are at (rw own_table at (kept_since (grows_from set.grows) lacking.kept));
           slots = same_slots table lists before set.rests after rests_lists;
           marks =
               lacking.marks
@@ -291,8 +275,7 @@ has_evicted {table = table} {lists = lists} {after_lists = after_lists} {key = k
     let (rests_after, gains)
     = swap_ends looks leaves reply.Evicted after_lists after (ap (λ (s : SlotLists). s.slots) retires)
     (ap (λ (s : SlotLists). s.reaped) retires) (ap (λ (m : Marks). m.reaped) gone.marks.0)
-    (subst (λ (s : SlotLists). LeadsIn 1 table (model.Evict key) (desk_with s Idle, ended reply.Evicted) mid after)
-    (sym retires) gone.leads) in
+    (rw retires gone.leads) in
     let slots
     = lists_shown table after_lists after rests_after ∙ retires
     ∙ ap (λ (s : SlotLists). record s { retired = s.retired ++ unnamed found })
@@ -333,8 +316,7 @@ has_cancelled {table = table} {lists = lists} {after_lists = after_lists} {key =
     let (rests_after, gains)
     = swap_ends looks withdraws reply.Cancelled after_lists after (ap (λ (s : SlotLists). s.slots) renumbers)
     (ap (λ (s : SlotLists). s.reaped) renumbers) (ap (λ (m : Marks). m.reaped) gone.marks.0)
-    (subst (λ (s : SlotLists). LeadsIn 1 table (model.Cancel key) (desk_with s Idle, ended reply.Cancelled) mid after)
-    (sym renumbers) gone.leads) in (
+    (rw renumbers gone.leads) in (
       rests_own table after_lists after rests_after,
       (
         gains,
@@ -369,9 +351,7 @@ module _ {table : Table} {lists : SlotLists} {call given : WriterCall} {found : 
       let outcome = λ (desk : Desk) (c : WriterCall). decided table.shape desk c rows in
       let same = ap desk_of leads_there.writes.role in
       let then
-      = subst
-      (λ (p : Desk × WriterCall). LeadsIn (2 * length rows + 1) table (call_of p.1) (outcome p.0 p.1) mid after)
-      (λ j. (same j, is j)) read.leads in
+      = rw is at (rw same at read.leads) in
       record {
         own = looks.own;
         rests = looks.rests;
@@ -382,9 +362,7 @@ module _ {table : Table} {lists : SlotLists} {call given : WriterCall} {found : 
               grows = grows_both {sum = 2 * length rows + 2} (omega arith) leads_there.grows then.grows;
               short = then.short;
             };
-        had =
-            subst (λ (p : Desk × WriterCall). KeyHas table p.1 rows (outcome p.0 p.1).1 after) (λ j. (same j, is j))
-            read.had;
+        had = rw (sym same, sym is) read.had;
         marks = read.marks ∙ looks.marks;
         heard = read.heard ∙ looks.heard;
       }
@@ -487,8 +465,7 @@ module
       has_updated {mid = mid} {last = last} {after_lists = after_lists} set grown put =
           let so = has_published set given_is put in
           let here
-          = subst (λ (c : WriterCall). PublishesSet table c left mid lists last after_lists)
-          given_is put in
+          = rw given_is at put in
           let then = (grown _ here.grows).1 in
           let all = so.1.gains in (
             so.0,

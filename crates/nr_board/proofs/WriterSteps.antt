@@ -129,8 +129,7 @@ module
       → Lacks call counts (caller_of table next_view)
   short_after counts without shortage polled =
       let none_added : step.entries ≡ [] = entries_told ∙ ap (ending call) without in
-      let same_log : kept.log ≡ kept.log ++ step.entries
-      = sym (append-nil kept.log) ∙ ap (λ (l : List Entry). kept.log ++ l) (sym none_added) in
+      let same_log = sym (append-nil kept.log) ∙ ap (λ (l : List Entry). kept.log ++ l) (sym none_added) in
       let desk_is : outcome.0 ≡ moved_to desk Idle = shortage.none.same in
       lacks_so shape _ (set (map role_of state.views) id step.after) (kept.log ++ step.entries) step.core id outcome.0
       there_after
@@ -186,8 +185,7 @@ looks_so shape slots id me desk call is idle given near =
     let found : ℕ = get_or kept.counted (key_of call) 0 in
     let outcome = looked shape desk call found in
     let c = call_of call in
-    let there : get_elem? (map role_of state.views) id ≡ some (Writer desk)
-    = at_map role_of state.views id view at ∙ ap some is in
+    let there = at_map role_of state.views id view at ∙ ap some is in
     let short : (counts : NoSlot) → outcome.1 ≡ Ended (writer.NoSlot counts)
     → Shortage shape kept.log desk c outcome counts
     × PolledAll shape desk.retired marked.now.polls = λ counts without. (
@@ -209,11 +207,7 @@ looks_so shape slots id me desk call is idle given near =
       leads = subst (λ (s : Shape). Leads c (looked s desk call found) view next) (sym size)
           (leads_so is kept at step marked marked.told.1 c outcome step.told.0 step.told.1 callers names
           short advances);
-      marks =
-          subst
-          (λ (p : Shape × List Past). LooksMarks p.0 view.marks desk call found step.after
-          (kept.log ++ step.entries) marked.now p.1)
-          (λ j. (sym size j, marked.told.1 j)) marked.told;
+      marks = rw marked.told.1 at (rw (sym size) at marked.told);
       heard = ap (λ r. heard_after r view.heard) is;
     })))
 
@@ -293,10 +287,8 @@ notes_so shape state kept polls now present at note there = ⊎_elim inl
     (λ (p : IsPresent role_of marks_of state.views note). let fits = kept.fits p.0 p.1 p.3 in
     let acts = fits.acts (let one : is_reader p.1.role ≡ 1 = ap is_reader p.4 in omega arith) in
     let count : note.count ≡ p.1.marks.acts = ap (λ (n : Past). n.count) p.5 in
-    let slot : to_depart note.slot ≡ to_depart (gripped (grip_of p.1.role))
-    = ap (λ (n : Past). to_depart n.slot) p.5 ∙ sym (ap (λ r. to_depart (gripped (grip_of r))) p.4) in
-    let mine : acts_told (entries_of kept.log note.reader) ≡ acts_told p.1.mine
-    = ap acts_told (fits.own note.reader (ap (is_by note.reader) p.4 ∙ eq-eqb note.reader note.reader refl)) in
+    let slot = ap (λ (n : Past). to_depart n.slot) p.5 ∙ sym (ap (λ r. to_depart (gripped (grip_of r))) p.4) in
+    let mine = ap acts_told (fits.own note.reader (ap (is_by note.reader) p.4 ∙ eq-eqb note.reader note.reader refl)) in
     inr (omega arith)) (present at note there)
 
 -- an operation on a word of the layout that is no count of departures; a load of a slot's departures
@@ -458,8 +450,7 @@ goes_so shape slots id me desk is busy heard in_order =
     let there : get_elem? (map role_of state.views) id ≡ some (Writer desk)
     = at_map role_of state.views id view at ∙ ap some is in
     let own
-    = subst (λ r. KnowsMarks role_of marks_of shape kept.counted state.views kept.log r view.marks) is
-    (kept.marked.each id view at) in
+    = rw is at (kept.marked.each id view at) in
     let sweep = own.sweep in
     let short : (counts : NoSlot) → outcome.1 ≡ Ended (writer.NoSlot counts)
     → Shortage shape kept.log desk c outcome counts
@@ -496,11 +487,7 @@ goes_so shape slots id me desk is busy heard in_order =
           rw size (finds_so shape kept.counted (map role_of state.views) kept.log kept.core id desk there view.marks
           own.names);
       notes = notes_so shape state kept view.marks.polls marked.now.polls marked.noted;
-      marks =
-          subst
-          (λ (p : Shape × List Past). GoesMarks p.0 view.marks view.pasts desk found step.after
-          (kept.log ++ step.entries) marked.now p.1)
-          (λ j. (sym size j, no_news j)) marked.told;
+      marks = rw (size, sym no_news) marked.told;
       heard = ap (λ r. heard_after r view.heard) is;
     })))
 
@@ -526,15 +513,10 @@ put_leads desk call rows slot departed index found old new is low went_so =
     let next : next_put desk ≡ after.0 = ap (λ (p : Place). moved_to desk (put_place p)) is in
     let leads = went_so.leads in record {
       role = leads.role ∙ ap (λ (o : Desk × Step). Writer o.0) outcome ∙ sym (ap Writer next);
-      advances =
-          subst (λ (s : Step). Advances (ending (call_at desk.place) s) old new) (ap (λ (o : Desk × Step). o.1) outcome)
-          leads.advances;
+      advances = rw (ap (λ (o : Desk × Step). o.1) outcome) at leads.advances;
       room = subst (Room old.shape) (ap (λ (o : Desk × Step). o.0) outcome ∙ sym next) leads.room;
-      numbers =
-          subst (λ (o : Desk × Step). AreNumbers old.shape (map_after old.shape new.seen) o.0.numbers) outcome
-          leads.numbers;
-      marks = (subst (λ (b : Bool). PutsMarks b old.marks (key_of call) slot rows found new.role new.seen new.marks [])
-          (le-leb index (2 * length rows) low)
+      numbers = rw outcome at leads.numbers;
+      marks = (rw (le-leb index (2 * length rows) low) at
           (subst (λ (p : Place). went_marks old.shape old.marks old.pasts desk p found new.role new.seen
           new.marks []) is went_so.marks)).0;
       heard = went_so.heard;
@@ -549,8 +531,7 @@ pub puts_so : (shape : Shape) (slots id : ℕ) (me : Me (Unit {0}) View) (desk :
 puts_so shape slots id me desk call rows slot departed index is place_is low =
     let at = moved_to desk (Putting call rows slot departed index) in
     let word : ℕ = get_or (encode rows) index 0 in
-    let operation : going shape at at.place ≡ Store (content shape slot index)
-    word =
+    let operation =
     ap
     (λ (b : Bool). cond {A = Operation} b (Store (content shape slot index) word)
     (Swap (key_of call) (naming slot departed)))
@@ -559,8 +540,7 @@ puts_so shape slots id me desk call rows slot departed index is place_is low =
     let told : ℕ → Me (Unit {0}) View → Type 0
     = λ found after. (other : Desk) → me.0.role ≡ Writer other → Went other found me.0 after.0 in
     let allows
-    = subst (λ (o : Operation). Allows (Kept shape) slots id me (target_of o) (becomes o) told) operation
-    (goes_so shape slots id me at at_is refl tt tt) in
+    = rw operation at (goes_so shape slots id me at at_is refl tt tt) in
     tells_also (Kept shape) slots id me (content shape slot index) (λ _. word) told
     (λ _ after. (other : Desk) → me.0.role ≡ Writer other → Put other me.0 after.0)
     (λ found after so other also. put_leads other call rows slot departed index found me.0 after.0
