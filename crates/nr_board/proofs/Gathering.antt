@@ -177,26 +177,24 @@ module _ (writer reader heard lent last told : MapSeat) (fresh : ℕ) (retired :
       hears (subst (λ (v : View). HearsOf (note_of heard.me.0) v told.me.0) (λ j. (first.1 j).0) hears_back)
 
   there : Meets 2 (token reader) (token writer) (with_step (token heard))
-  there =
-      record {
-        learns = recounted 1 2 writer.me.0.steps heard.me.0.steps (token writer) (with_step (token heard))
-            (omega (arith, meets.learns.steps_made)) meets.learns;
-        seen = meets.seen;
-        calls = meets.calls;
-      }
+  there = record {
+    learns = recounted 1 2 writer.me.0.steps heard.me.0.steps (token writer) (with_step (token heard))
+        (omega (arith, meets.learns.steps_made)) meets.learns;
+    seen = meets.seen;
+    calls = meets.calls;
+  }
 
   lends : Meets 1 (token heard) (with_step (token reader)) (token told)
   lends =
       subst (λ (r : Caller). Meets 1 (token heard) r (token told)) (noting_token reader lent first.0 first.1) meets_back
 
   back : Meets 2 (with_step (token heard)) (token reader) (token told)
-  back =
-      record {
-        learns = recounted 1 2 (reader.me.0.steps + 1) told.me.0.steps (token reader) (token told)
-            (omega (arith, lends.learns.steps_made)) lends.learns;
-        seen = lends.seen;
-        calls = lends.calls;
-      }
+  back = record {
+    learns = recounted 1 2 (reader.me.0.steps + 1) told.me.0.steps (token reader) (token told)
+        (omega (arith, lends.learns.steps_made)) lends.learns;
+    seen = lends.seen;
+    calls = lends.calls;
+  }
 
   one_is : past number grip reader.me.0.marks ≡ how_is (token reader)
   one_is = grind arith
@@ -222,5 +220,4 @@ module _ (writer reader heard lent last told : MapSeat) (fresh : ℕ) (retired :
       desk_at = grind arith
 
   pub gathers_seats : Gathers (token writer) (token reader) (token last) (token told)
-  gathers_seats =
-      rw (noting_token heard last second.0 second.1) gathers_heard
+  gathers_seats = rw (noting_token heard last second.0 second.1) gathers_heard

@@ -7,7 +7,7 @@ use Rattle.nr_model.specs.declared.calls.Call.{Call}
 use Rattle.nr_model.specs.declared.calls.Call.TheVariants as model
 use Rattle.nr_model.specs.declared.calls.Reply.{Reply}
 use Rattle.nr_model.specs.declared.calls.Reply.TheVariants as reply
-use Rattle.nr_core.specs.Slots.{name_number, names_slot}
+use Rattle.nr_core.specs.Slots.{name_number}
 use Rattle.nr_core.specs.Story.{entry}
 use Rattle.nr_words.specs.KeyWords.{is_filled, slot_of}
 use Rattle.nr_core.specs.declared.roles.Role.{Role}
@@ -61,8 +61,7 @@ module _ (table : Table) (key m n sum : ℕ) (marks : Marks) (old mid new : MapS
       → Gains sum (model.Find key) (token old) (token new) answer)
       → (answer : Option Held) → IsAnswered table key n marks mid new answer
       → IsAnswered table key sum marks old new answer
-  answered_so gains (Some held) so =
-      record { held_as = so.held_as; gains = gains _ so.gains; marks_are = so.marks_are }
+  answered_so gains (Some held) so = record { held_as = so.held_as; gains = gains _ so.gains; marks_are = so.marks_are }
   answered_so gains None so = record { idles = so.idles; gains = gains _ so.gains; marks_are = so.marks_are }
 
   pub answered_later : (answer : Option Held) → Grows m [] (token old) (token mid)
@@ -258,11 +257,10 @@ finds_none table key word empty before after idles gains marks =
       steps = 1;
       named = 0 ∷ [];
       takes = inl (refl, refl);
-      answered =
-          record {
-            idles = idles;
-            gains = gains;
-            marks_are = marks
-                ∙ ap (λ (n : ℕ). acted (with_look before.me.0.marks key n) (put_number after.me.0.seen key)) none;
-          };
+      answered = record {
+        idles = idles;
+        gains = gains;
+        marks_are = marks
+            ∙ ap (λ (n : ℕ). acted (with_look before.me.0.marks key n) (put_number after.me.0.seen key)) none;
+      };
     }

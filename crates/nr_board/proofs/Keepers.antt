@@ -38,18 +38,16 @@ pub held_within : {before mid last after : List Entry} {slot : ℕ} {note : Past
     → StartsWith after last → HeldThen mid last slot note → HeldThen before after slot note
 held_within {before = before} begun more held = record {
   log = held.log;
-  since =
-      record {
-        rest = begun.rest ++ held.since.rest;
-        is = held.since.is ∙ ap (λ (l : List Entry). l ++ held.since.rest) begun.is
-            ∙ append_assoc before begun.rest held.since.rest;
-      };
-  until =
-      record {
-        rest = held.until.rest ++ more.rest;
-        is = more.is ∙ ap (λ (l : List Entry). l ++ more.rest) held.until.is
-            ∙ append_assoc held.log held.until.rest more.rest;
-      };
+  since = record {
+    rest = begun.rest ++ held.since.rest;
+    is = held.since.is ∙ ap (λ (l : List Entry). l ++ held.since.rest) begun.is
+        ∙ append_assoc before begun.rest held.since.rest;
+  };
+  until = record {
+    rest = held.until.rest ++ more.rest;
+    is = more.is ∙ ap (λ (l : List Entry). l ++ more.rest) held.until.is
+        ∙ append_assoc held.log held.until.rest more.rest;
+  };
   holds = held.holds;
   count = held.count;
 }
@@ -61,12 +59,11 @@ starts_itself {log = log} = record { rest = []; is = sym (append-nil log) }
 
 pub adds_none : (is : ℕ → Type 0) (kept : ℕ → Past → Type 0) (notes : List Past) → ((slot : ℕ) → is slot → ⊥)
     → Adds is kept notes notes
-adds_none is kept notes none =
-    record {
-      stay = λ at note there. there;
-      slots = λ slot of. absurd (none slot of);
-      keepers = λ at note there. inl there;
-    }
+adds_none is kept notes none = record {
+  stay = λ at note there. there;
+  slots = λ slot of. absurd (none slot of);
+  keepers = λ at note there. inl there;
+}
 
 -- the same notes, of the same slots
 pub adds_on : (is now : ℕ → Type 0) (kept told : ℕ → Past → Type 0) (before notes : List Past)

@@ -1,6 +1,6 @@
 -- A step of the core is a step on the table: one lemma over all kinds of step.
 use Rattle.std.proofs.Common.{◌≡◌, ◌+◌, length-set, ℕ, ◌<◌, ◌≤◌, ◌≢◌, ◌^◌, get_or-set_other, List, [], ◌++◌, map, set}
-use Rattle.std.proofs.Common.{get_or, cond, Bool, true, false, ⊎_elim, refl, sym, ap, ◌∙◌, subst, arith, append_assoc}
+use Rattle.std.proofs.Common.{get_or, cond, Bool, true, false, refl, sym, ap, ◌∙◌, subst, arith, append_assoc}
 use Rattle.std.proofs.Common.{append-nil}
 use mathlib.Core.Option.{some}
 use lib.ListN.{get_elem?}
@@ -19,7 +19,7 @@ use Rattle.nr_core.specs.Sums.{total}
 use Rattle.nr_core.specs.declared.roles.Role.{Role}
 use Rattle.nr_core.specs.declared.shape.Shape.{Shape}
 use Rattle.nr_core.proofs.Knowing.{knowing_step}
-use Rattle.nr_core.specs.Marked.{AllSince, CanMark, KnowsMarks, MarkTelling, Remarked}
+use Rattle.nr_core.specs.Marked.{AllSince, CanMark, MarkTelling, Remarked}
 use Rattle.nr_core.specs.Marks.{Past}
 use Rattle.nr_board.proofs.Entries.{callers_both}
 use Rattle.nr_board.proofs.OneView.{at_any}
@@ -44,19 +44,17 @@ Table = State (Unit {0}) View
 other_fits : (shape : Shape) (log entries : List Entry) (view : View) → Fits shape log view
     → ((caller : ℕ) → is_by caller view.role ≡ true → entries_of entries caller ≡ []) → Fits shape (log ++ entries) view
 other_fits shape log entries view fits none = record {
-  begins =
-      record {
-        rest = fits.begins.rest ++ entries;
-        is = ap (λ (l : List Entry). l ++ entries) fits.begins.is ∙ append_assoc view.seen fits.begins.rest entries;
-      };
+  begins = record {
+    rest = fits.begins.rest ++ entries;
+    is = ap (λ (l : List Entry). l ++ entries) fits.begins.is ∙ append_assoc view.seen fits.begins.rest entries;
+  };
   own = λ caller his. of-append caller log entries
       ∙ ap (λ (l : List Entry). entries_of log caller ++ l) (none caller his) ∙ append-nil (entries_of log caller)
       ∙ fits.own caller his;
-  told =
-      record {
-        rest = fits.told.rest ++ entries;
-        is = ap (λ (l : List Entry). l ++ entries) fits.told.is ∙ append_assoc view.told fits.told.rest entries;
-      };
+  told = record {
+    rest = fits.told.rest ++ entries;
+    is = ap (λ (l : List Entry). l ++ entries) fits.told.is ∙ append_assoc view.told fits.told.rest entries;
+  };
   knows_own = fits.knows_own;
   acts = fits.acts;
   sized = fits.sized;
@@ -363,7 +361,7 @@ module _ (shape : Shape) (id : ℕ) (view : View) (operation : Operation) (tells
       let same = ap (λ (p : ℕ). get_or counted p 0) at ∙ alone ∙ sym (ap (λ (p : ℕ). get_or words p 0) at) in (
         record {
           counts = rw ((loads (get_or words place 0)), (loads (get_or counted place 0))) (counted_load shape (lent
-          state.views) words counted place kept.counts_words);
+              state.views) words counted place kept.counts_words);
           behind = λ own _. ap (λ (l : List ℕ). get_or l (says_at shape own) 0)
               (ap (set words place) (loads (get_or words place 0)) ∙ set-get_or words place 0);
         },

@@ -78,25 +78,24 @@ module _ (shape : Shape) (log : List Entry) (view : View) (fits : Fits shape log
       → ((caller : ℕ) → entries_of entries caller ≡ cond (is_by caller view.role) entries [])
       → ActsGo view after entries marks
       → Fits shape (log ++ entries) (learned view after (log ++ entries) entries marks news)
-  learned_fits entries marks news own acts =
-      let all = learned_own entries own in record {
-        begins = record { rest = []; is = sym (append-nil (log ++ entries)) };
-        told =
-            record {
-              rest = fits.told.rest ++ entries;
-              is = ap (λ (l : List Entry). l ++ entries) fits.told.is
-                  ∙ append_assoc view.told fits.told.rest entries;
-            };
-        own = all;
-        knows_own = all;
-        acts = λ reads. omega (
-          arith,
-          fits.acts (omega arith),
-          acts reads,
-          total-append (λ (e : Entry). acts_at e.call e.reply) view.mine entries,
-        );
-        sized = λ l. fits.sized (omega arith);
-      }
+  learned_fits entries marks news own acts = let all = learned_own entries own in record {
+    begins = record { rest = []; is = sym (append-nil (log ++ entries)) };
+    told =
+        record {
+          rest = fits.told.rest ++ entries;
+          is = ap (λ (l : List Entry). l ++ entries) fits.told.is
+              ∙ append_assoc view.told fits.told.rest entries;
+        };
+    own = all;
+    knows_own = all;
+    acts = λ reads. omega (
+      arith,
+      fits.acts (omega arith),
+      acts reads,
+      total-append (λ (e : Entry). acts_at e.call e.reply) view.mine entries,
+    );
+    sized = λ l. fits.sized (omega arith);
+  }
 
   pub waited_fits : (marks : Marks) (news : List Past) → ActsGo view after [] marks
       → Fits shape (log ++ []) (waited view after marks news)

@@ -1,5 +1,5 @@
 -- Notes are split from a token and joined to another.
-use Rattle.std.proofs.Common.{◌≡◌, ◌<◌, ℕ, suc, cond, ◌+◌, ◌≢◌, List, [], ◌∷◌, ◌++◌, map, get_or, set, ◌⊎◌, ⊎_elim, inl}
+use Rattle.std.proofs.Common.{◌≡◌, ◌<◌, ℕ, suc, cond, ◌+◌, List, [], ◌∷◌, ◌++◌, map, get_or, set, ◌⊎◌, inl}
 use Rattle.std.proofs.Common.{inr, refl, sym, ap, ◌∙◌, subst, arith}
 use mathlib.Core.List.{map-append}
 use mathlib.Core.Option.{none, some}
@@ -157,8 +157,7 @@ adds_note shape source state kept begins since =
       announcers = kept.announcers;
       told_of = at_more views note (λ _ calls. absurd (omega arith)) kept.told_of;
       hears = hears_more views note refl refl kept.hears;
-      core =
-          rw more (notes shape kept.counted roles kept.log kept.core);
+      core = rw more (notes shape kept.counted roles kept.log kept.core);
       fits = at_more views note (λ _. note_fits shape kept.log source note refl begins refl) kept.fits;
       callers = kept.callers;
       once = λ caller. omega (arith, kept.once caller, tally caller);

@@ -8,7 +8,7 @@ use Rattle.nr_model.specs.declared.calls.Reply.TheVariants as reply
 use Rattle.nr_model.specs.declared.rows.Row.{Row}
 use Rattle.nr_model.specs.Histories.{Entry, IsLegal}
 use Rattle.nr_core.specs.Story.{call_of, ending}
-use Rattle.nr_core.specs.Writer.{ended, moved_to, put_on, swapped, unnamed}
+use Rattle.nr_core.specs.Writer.{ended, moved_to, swapped, unnamed}
 use Rattle.nr_core.specs.declared.calls.Step.{Step}
 use Rattle.nr_core.specs.declared.calls.Step.TheVariants.{Going}
 use Rattle.nr_core.specs.declared.calls.WriterCall.{WriterCall}
@@ -22,12 +22,9 @@ use Rattle.nr_board.proofs.Searching.{grows_none}
 use Rattle.nr_board.specs.Entries.{AreCallers}
 use Rattle.nr_board.specs.Flags.{IsFlagged}
 use Rattle.nr_board.specs.Views.{desk_of}
-use Rattle.nr_core.specs.declared.places.Retired.{Retired}
 use Rattle.nr_core.specs.SlotLists.{SlotLists}
 use Rattle.nr_board.specs.SlotLists.{desk_with}
 use Rattle.nr_core.specs.Marks.{Marks, with_name, with_scan}
-use Rattle.nr_core.specs.MarkSteps.{PutsMarks}
-use Rattle.nr_board.specs.Plays.{SwapsOrPuts}
 use Rattle.nr_core.specs.States.{key_of}
 use Rattle.nr_board.specs.WriterSeats.{GoesOn, IsPutting, LeadsIn, MapSeat, PublishesSet, PutsTo, TakesSlot}
 use Rattle.nr_board.specs.WriterSeats.{WritesAt}

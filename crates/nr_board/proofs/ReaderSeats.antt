@@ -22,7 +22,7 @@ use Rattle.nr_core.specs.declared.roles.Role.{Role}
 use Rattle.nr_core.specs.declared.roles.Role.TheVariants.{Reader}
 use Rattle.nr_core.specs.declared.shape.Shape.{Shape}
 use Rattle.nr_board.proofs.Tokens.{MapSeat, seat_grows, seat_rests}
-use Rattle.nr_board.specs.Callers.{Gains, Grows, Rests, Table, map_seen, token}
+use Rattle.nr_board.specs.Callers.{Gains, Grows, Rests, Table, token}
 use Rattle.nr_board.specs.Holds.{HeldAs, HoldsWhatItSays, slot_in}
 use Rattle.nr_board.specs.declared.holds.Held.{Held}
 use Rattle.nr_board.specs.Kinds.{kind_of, kind_shown}
@@ -159,12 +159,11 @@ module _ (table : Table) (before after : MapSeat) (same : after.table_id ≡ bef
       (λ no. (again_learns no).table)
 
   pub again_holds : HoldsAt table begin after
-  again_holds =
-      record {
-        own = own_table ∙ holds.own;
-        holds = subst (Holds table.shape) (sym told.role) holds.holds;
-        begin_is = holds.begin_is ∙ ap (λ r. content table.shape (slot_held r) 0) (sym told.role);
-      }
+  again_holds = record {
+    own = own_table ∙ holds.own;
+    holds = subst (Holds table.shape) (sym told.role) holds.holds;
+    begin_is = holds.begin_is ∙ ap (λ r. content table.shape (slot_held r) 0) (sym told.role);
+  }
 
   pub again_marks : after.me.0.marks ≡ found_again answer (with_look before.me.0.marks key (name_number found))
   again_marks =

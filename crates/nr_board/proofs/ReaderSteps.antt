@@ -43,7 +43,7 @@ use Rattle.nr_board.specs.Announcing.{lent, says_at}
 use Rattle.nr_core.proofs.WordPlaces.{content_inside, departures_inside}
 use Rattle.nr_board.proofs.Moves.{ActsGo, learned, learning, names_go, reads_only, waited, waiting}
 use Rattle.nr_board.specs.Entries.{AreCallers, acts_told, to_depart}
-use Rattle.nr_core.specs.Marked.{KnowsMarks, MarkTelling, Remarked}
+use Rattle.nr_core.specs.Marked.{MarkTelling, Remarked}
 use Rattle.nr_core.specs.Marks.{Marks, gripped, with_look}
 use lib.ListN.{get_elem?}
 use lib.Seq.{set-get_or}

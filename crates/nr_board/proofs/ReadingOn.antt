@@ -152,10 +152,8 @@ module _ (table : Table) (call : WriterCall) (begin : ℕ) (before : MapSeat) wh
           row_set = subst (IsRowSet (bound_of table.shape)) (sym named) row_set;
           positive = some;
           few = omega (arith, few, ap length named);
-          leads =
-              rw named leads;
-          had =
-              rw named had;
+          leads = rw named leads;
+          had = rw named had;
           marks = marks;
           heard = heard;
         },
@@ -194,22 +192,20 @@ module _ (table : Table) (call : WriterCall) (begin : ℕ) (before : MapSeat) wh
     length-got = length-take-le words (encode rows) (omega (arith, left, length-encode rows))
 
     leads_here : LeadsIn words table (call_of call) (moved_to desk (Reading call so_far.slot got), Going) before mid
-    leads_here =
-        rw (sym (reads_more so_far.slot rows words so_far.positive (omega (arith, left)))) so_far.leads
+    leads_here = rw (sym (reads_more so_far.slot rows words so_far.positive (omega (arith, left)))) so_far.leads
 
     -- the writer can read the next word
     pub reading_next : IsReading table begin words mid
-    reading_next =
-        record {
-          desk = moved_to desk (Reading call so_far.slot got);
-          writes = leads_here.writes;
-          call = call;
-          slot = so_far.slot;
-          got = got;
-          place = refl;
-          begin_is = so_far.begin_is;
-          index_is = sym length-got;
-        }
+    reading_next = record {
+      desk = moved_to desk (Reading call so_far.slot got);
+      writes = leads_here.writes;
+      call = call;
+      slot = so_far.slot;
+      got = got;
+      place = refl;
+      begin_is = so_far.begin_is;
+      index_is = sym length-got;
+    }
 
     -- it finds the next word of the key's set, which is the same still
     pub read_next : (found : ℕ) (after : MapSeat) → GoesOn table found mid after

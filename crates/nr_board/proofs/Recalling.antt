@@ -7,15 +7,13 @@ use Rattle.nr_core.specs.Roles.{is_writer}
 use Rattle.nr_core.specs.Slots.{bound_of, content, slot_room}
 use Rattle.nr_core.proofs.WordPlaces.{content_inside}
 use Rattle.nr_board.proofs.Lift.{content_no_count}
-use Rattle.nr_core.specs.declared.roles.Role.{Role}
 use Rattle.nr_core.specs.declared.shape.Shape.{Shape}
-use Rattle.nr_core.specs.Marked.{KnowsMarks}
 use Rattle.nr_core.specs.Marks.{set_in}
 use Rattle.nr_board.proofs.Notes.{logs_on}
 use Rattle.nr_board.proofs.Rows.{length-encode}
 use Rattle.nr_board.specs.Notes.{has_noted}
 use Rattle.nr_board.specs.Recalls.{IsWordOf, has_recalled}
-use Rattle.nr_board.specs.Rule.{Kept, marks_of, role_of}
+use Rattle.nr_board.specs.Rule.{Kept}
 use Rattle.nr_board.specs.Views.{View}
 
 pub recalls_so : (shape : Shape) (slots id : ℕ) (me : Me (Unit {0}) View) (place : ℕ)

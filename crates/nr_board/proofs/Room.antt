@@ -11,7 +11,7 @@ use Rattle.nr_core.proofs.ReadThrough.{read_set}
 use Rattle.nr_core.proofs.Sums.{only-same}
 use Rattle.nr_core.specs.Core.{AtDesk, AtPlace, Core}
 use Rattle.nr_core.specs.Roles.{held, taken}
-use Rattle.nr_core.specs.States.{key_of, number_at}
+use Rattle.nr_core.specs.States.{key_of}
 use Rattle.nr_core.specs.Story.{map_after}
 use Rattle.nr_core.specs.Sums.{only}
 use Rattle.nr_core.specs.declared.places.Place.{Place}

@@ -1,6 +1,6 @@
 -- The writer makes the next reader.
 use Rattle.std.proofs.Common.{◌≡◌, ℕ, suc, ◌+◌, ◌<◌, ◌≤◌, ◌≢◌, List, [], ◌∷◌, ◌++◌, map, set, cond, ne_eqb, Bool, true}
-use Rattle.std.proofs.Common.{false, ⊎_elim, inl, refl, sym, ap, ◌∙◌, subst, arith}
+use Rattle.std.proofs.Common.{false, inl, refl, sym, ap, ◌∙◌, arith}
 use Rattle.std.proofs.lemmas.Bool.{eqb-true}
 use mathlib.Core.List.{map-append}
 use mathlib.Core.Logic.{dite}
@@ -22,7 +22,7 @@ use Rattle.nr_core.proofs.Knowing.{knowing_set, knowing_snoc}
 use Rattle.nr_core.proofs.ListPlaces.{no_places}
 use Rattle.nr_core.proofs.SeatMarks.{alike_marked, evolves_alike, seats_marked}
 use Rattle.nr_core.specs.Marked.{Since}
-use Rattle.nr_board.specs.Rule.{Fits, Kept, counts, marks_of, pasts_of, role_of, told_pasts_of}
+use Rattle.nr_board.specs.Rule.{Kept, counts, marks_of, pasts_of, role_of, told_pasts_of}
 use Rattle.nr_core.specs.Marks.{gripped}
 use Rattle.nr_board.specs.Views.{View, grip_of, next_reader, with_reader}
 use Rattle.nr_board.specs.Announcing.{HasNoReader, lent}
@@ -88,8 +88,7 @@ seats_so shape id view writes few state kept at =
           hears_more (set views id left) next refl refl
           (hears_on views id view left at (λ _. refl) refl (λ _. refl) (λ _. hears_as view left refl refl)
           kept.hears);
-      core =
-          rw more (seats shape kept.counted roles kept.log (view.made + 1) kept.core (omega (arith, kept.readers)));
+      core = rw more (seats shape kept.counted roles kept.log (view.made + 1) kept.core (omega (arith, kept.readers)));
       fits =
           at_more (set views id left) next
           (λ _. record {

@@ -1,5 +1,5 @@
 -- The steps of a token, put together.
-use Rattle.std.proofs.Common.{◌≡◌, ℕ, ◌+◌, List, [], ◌++◌, refl, sym, ap, ◌∙◌, subst, arith, append_assoc, append-nil}
+use Rattle.std.proofs.Common.{◌≡◌, ℕ, ◌+◌, List, [], ◌++◌, sym, ap, ◌∙◌, subst, arith, append_assoc, append-nil}
 use Rattle.atomic_table.specs.Seated.{TableId}
 use Rattle.atomic_table.specs.declared.shared.Seat.{Seat}
 use Rattle.nr_model.specs.Histories.{Entry, IsLegal, entries_of}
@@ -14,8 +14,7 @@ MapSeat = Seat (Unit {0}) View
 -- what a play tells of a seat's views, it tells of the token
 pub seat_grows : (before after : MapSeat) (entries : List Entry) → after.table_id ≡ before.table_id
     → Advances entries before.me.0 after.me.0 → Grows 1 entries (token before) (token after)
-seat_grows before after entries same advances =
-    rw same (advances before.table_id)
+seat_grows before after entries same advances = rw same (advances before.table_id)
 
 pub seat_rests : (before after : MapSeat) → after.table_id ≡ before.table_id → Waits before.me.0 after.me.0
     → Rests 1 (token before) (token after)

@@ -40,12 +40,11 @@ module _ (table : Table) (before after : MapSeat) (same : after.table_id ≡ bef
 
   pub looked_announces : (slot key found : ℕ) → AnnouncesAt table slot before
       → LookedUp key found before.me.0 after.me.0 → AnnouncesAt table slot after
-  looked_announces slot key found at told =
-      record {
-        own = own_still key found told ∙ at.own;
-        idle = subst IsIdle (sym told.role) at.idle;
-        says = told.says ∙ at.says;
-      }
+  looked_announces slot key found at told = record {
+    own = own_still key found told ∙ at.own;
+    idle = subst IsIdle (sym told.role) at.idle;
+    says = told.says ∙ at.says;
+  }
 
   -- what the word says then
   said_own : (says : ℕ) → Said says before.me.0 after.me.0 → (token after).table ≡ (token before).table
@@ -67,11 +66,10 @@ module _ (table : Table) (before after : MapSeat) (same : after.table_id ≡ bef
 
   has_still : (own : ℕ) → caller_number after.me.0.role ≡ caller_number before.me.0.role
       → (token after).table ≡ (token before).table → HasWord own before.me.0 → HasWord own after.me.0
-  has_still own number tables has =
-      record {
-        number = number ∙ has.number;
-        within = subst (λ (n : ℕ). own < n) (sym (ap (λ (t : Table). t.announcers) tables)) has.within;
-      }
+  has_still own number tables has = record {
+    number = number ∙ has.number;
+    within = subst (λ (n : ℕ). own < n) (sym (ap (λ (t : Table). t.announcers) tables)) has.within;
+  }
 
   pub said_word : (own says : ℕ) → HasWord own before.me.0 → Said says before.me.0 after.me.0 → HasWord own after.me.0
   said_word own says has told = has_still own (ap caller_number told.role) (said_own says told) has

@@ -35,7 +35,7 @@ use Rattle.nr_core.proofs.HoldNamedMarks.{holds_named_marked, looks_up_marked}
 use Rattle.nr_core.proofs.LearnMarks.{learns_reader}
 use Rattle.nr_core.proofs.ListPlaces.{no_places}
 use Rattle.nr_core.proofs.ReaderMarks.{departs_marked}
-use Rattle.nr_core.specs.Marked.{KnowsMarks, MarkTelling, Remarked, Since}
+use Rattle.nr_core.specs.Marked.{MarkTelling, Remarked, Since}
 use Rattle.nr_core.specs.MarkSteps.{DepartsMarks, HoldsNamedMarks, LooksUpMarks, ReaderLearns}
 use Rattle.nr_core.specs.Marks.{Marks, acted, with_look}
 use Rattle.nr_core.specs.Puts.{put_number}
@@ -127,8 +127,7 @@ loud_lends : (view : View) (slot : ℕ) → 0 < view.says → lends slot view �
 loud_lends view slot loud = ap (λ (b : Bool). cond b (holds slot view.role) 0) (lt-ltb 0 view.says loud)
 
 idle_lends : (view : View) → ((slot : ℕ) → holds slot view.role ≡ 0) → (slot : ℕ) → lends slot view ≡ 0
-idle_lends view nothing slot =
-    on_test (λ (n : ℕ). n ≡ 0) (nat_lt 0 view.says) (λ _. nothing slot) (λ _. refl)
+idle_lends view nothing slot = on_test (λ (n : ℕ). n ≡ 0) (nat_lt 0 view.says) (λ _. nothing slot) (λ _. refl)
 
 module _ (shape : Shape) (id own : ℕ) (view : View) (has : HasWord own view) (state : State (Unit {0}) View)
     (kept : Kept shape state) (at : get_elem? state.views id ≡ some view)

@@ -30,10 +30,8 @@ use Rattle.nr_board.proofs.Tokens.{grows_both}
 use Rattle.nr_board.specs.WriterAnswers.{HasNoSlot, KeyHad, Publishes, RetiresOne, SlotsStay}
 use Rattle.nr_board.specs.Callers.{Gains, Grows, Table, map_at_opening, token}
 use Rattle.nr_core.specs.SlotLists.{SlotLists}
-use Rattle.nr_core.specs.declared.places.Retired.{Retired}
-use Rattle.nr_board.specs.SlotLists.{AreFewSteps, SearchedAll, TookBySearch, desk_with, lists_of}
-use Rattle.nr_core.specs.Marks.{Marks, Past, with_loads, with_name, with_polls, with_scan, without_name}
-use Rattle.nr_core.specs.PollNotes.{Noted}
+use Rattle.nr_board.specs.SlotLists.{AreFewSteps, desk_with, lists_of}
+use Rattle.nr_core.specs.Marks.{Marks, with_loads, with_name, with_polls, with_scan, without_name}
 use Rattle.nr_board.proofs.Looks.{HasLooked, rests_own}
 use Rattle.nr_board.proofs.ReadingOn.{settled_quiet}
 use Rattle.nr_board.specs.NamedRows.{ReadsAll}
@@ -43,13 +41,12 @@ use Rattle.nr_board.proofs.Searching.{grows_from}
 use Rattle.nr_board.proofs.Waiting.{lists_shown}
 use Rattle.nr_board.specs.Kinds.{kind_of}
 use Rattle.nr_board.proofs.Keepers.{kept_since}
-use Rattle.nr_board.specs.Polls.{KeptBack}
 use Rattle.nr_model.proofs.LawLemmas.{legal_goes_on_lem}
 use Rattle.nr_core.proofs.Settle.{key_same}
 use Rattle.nr_core.specs.States.{key_of}
 use Rattle.nr_board.specs.Views.{desk_of, caller_number}
 use Rattle.nr_board.specs.Begins.{HasRead, HasSet}
-use Rattle.nr_board.specs.WriterSeats.{GoesOn, LacksSlot, LeadsIn, MapSeat, PublishesSet, RestsAt, WritesAt, KeyHas}
+use Rattle.nr_board.specs.WriterSeats.{GoesOn, LacksSlot, LeadsIn, MapSeat, PublishesSet, RestsAt, WritesAt}
 use Rattle.nr_core.specs.Slots.{bound_of}
 
 -- an entry of the writer's is the call's own
@@ -228,7 +225,7 @@ module _ {table : Table} {lists : SlotLists} {steps : ℕ} {call : WriterCall} {
           readers = none_between (steps + lacking.steps) (token before) [] (token after) set.rests.own refl all;
           lacks = lacking.lacks;
           noted = λ counted. rw set.grows.pasts at (rw own_table at (lacking.noted (ap (λ (t : Table). t.announcers)
-          own_table ∙ counted)));
+              own_table ∙ counted)));
           kept = rw retired_are at (rw own_table at (kept_since (grows_from set.grows) lacking.kept));
           slots = same_slots table lists before set.rests after rests_lists;
           marks =
@@ -356,12 +353,11 @@ module _ {table : Table} {lists : SlotLists} {call given : WriterCall} {found : 
         own = looks.own;
         rests = looks.rests;
         row_set = read.row_set;
-        leads =
-            record {
-              writes = then.writes;
-              grows = grows_both {sum = 2 * length rows + 2} (omega arith) leads_there.grows then.grows;
-              short = then.short;
-            };
+        leads = record {
+          writes = then.writes;
+          grows = grows_both {sum = 2 * length rows + 2} (omega arith) leads_there.grows then.grows;
+          short = then.short;
+        };
         had = rw (sym same, sym is) read.had;
         marks = read.marks ∙ looks.marks;
         heard = read.heard ∙ looks.heard;
@@ -391,14 +387,12 @@ module
   leads_by : (left : Result (List Row) ApplyFault) → applied (bound_of table.shape) rows batch ≡ left
       → LeadsIn (2 * length rows + 2) table (model.Update key batch)
       (renewed table.shape at_read (Update key batch) left) before after
-  leads_by left is =
-      rw (sym is) read.leads
+  leads_by left is = rw (sym is) read.leads
 
   seen_by : (left : Result (List Row) ApplyFault) → applied (bound_of table.shape) rows batch ≡ left
       → after.me.0.seen
       ≡ read.had.log ++ ending (model.Update key batch) (renewed table.shape at_read (Update key batch) left).1
-  seen_by left is =
-      rw (sym is) read.had.seen
+  seen_by left is = rw (sym is) read.had.seen
 
   -- the map before the update is that of the table
   own_map : (log : List Entry) (number : ℕ) → state_of (map_after table.shape log) key ≡ states.Rows number rows

@@ -36,13 +36,12 @@ module _ (table : Table) (before after : MapSeat) (same : after.table_id ≡ bef
   pub leads_seat : (call : Call) (outcome : Desk × Step) → Leads call outcome before.me.0 after.me.0
       → LeadsTo table call outcome before after
   leads_seat call outcome leads = let grows = seat_grows before after _ same leads.advances in record {
-    writes =
-        record {
-          own = grows.table ∙ own;
-          role = leads.role;
-          room = subst (λ (s : Shape). Room s outcome.0) shape_is leads.room;
-          numbers = numbers_seat outcome.0.numbers grows.table leads.numbers;
-        };
+    writes = record {
+      own = grows.table ∙ own;
+      role = leads.role;
+      room = subst (λ (s : Shape). Room s outcome.0) shape_is leads.room;
+      numbers = numbers_seat outcome.0.numbers grows.table leads.numbers;
+    };
     grows = grows;
     short = λ counts without. leads.short counts without after.table_id;
   }
@@ -65,20 +64,18 @@ module _ (table : Table) (before after : MapSeat) (same : after.table_id ≡ bef
         ∙ ap (λ (s : Shape). told.log ++ ending (call_at desk.place) (went s desk desk.place found).1) shape_is;
     finds = subst (λ (s : Shape). Finds s desk.place found told.log before.me.0.marks) shape_is told.finds;
     notes = told.notes;
-    marks =
-        rw (sym shape_is) told.marks;
+    marks = rw (sym shape_is) told.marks;
     heard = told.heard;
   }
 
   pub put_seat : (desk : Desk) → Put desk before.me.0 after.me.0 → PutsTo table desk before after
   put_seat desk told = let grows = seat_grows before after [] same told.advances in record {
-    writes =
-        record {
-          own = grows.table ∙ own;
-          role = told.role;
-          room = subst (λ (s : Shape). Room s (next_put desk)) shape_is told.room;
-          numbers = numbers_seat desk.numbers grows.table told.numbers;
-        };
+    writes = record {
+      own = grows.table ∙ own;
+      role = told.role;
+      room = subst (λ (s : Shape). Room s (next_put desk)) shape_is told.room;
+      numbers = numbers_seat desk.numbers grows.table told.numbers;
+    };
     grows = grows;
     marks = told.marks;
     heard = told.heard;

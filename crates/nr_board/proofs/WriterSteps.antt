@@ -8,7 +8,7 @@ use lib.ListN.{get_elem?}
 use Rattle.atomic_table.specs.Seated.{TableId}
 use Rattle.atomic_table.specs.Table.{Allows, Me, State, carried_after}
 use Rattle.atomic_table.proofs.Lists.{at_map}
-use Rattle.nr_model.specs.Histories.{Entry, entries_of}
+use Rattle.nr_model.specs.Histories.{Entry}
 use Rattle.nr_model.specs.Maps.{call_key, reply_to, state_of}
 use Rattle.nr_model.specs.declared.rows.Row.{Row}
 use Rattle.nr_model.specs.declared.calls.Call.{Call}
@@ -48,7 +48,7 @@ use Rattle.nr_core.specs.declared.shape.Shape.{Shape}
 use Rattle.nr_core.proofs.GoMarks.{goes_marked}
 use Rattle.nr_core.proofs.LookMarks.{looks_marked}
 use Rattle.nr_core.specs.MarkSteps.{GoesMarks, LooksMarks, PollTells, PollsNext, PutsMarks, went_marks}
-use Rattle.nr_core.specs.Marked.{IsPresent, KnowsMarks, MarkTelling, NotesPresent, Remarked}
+use Rattle.nr_core.specs.Marked.{IsPresent, MarkTelling, NotesPresent, Remarked}
 use Rattle.nr_core.proofs.Choices.{by_cases, on_test}
 use Rattle.nr_board.proofs.Brings.{given_brings, reads_no_fill, wants_brings, writer_entries}
 use Rattle.nr_board.proofs.Learning.{shows_kind}
@@ -117,8 +117,7 @@ module
       outcome.0 there_after)
 
   numbers_after : AreNumbers view.shape (map_after view.shape (kept.log ++ step.entries)) outcome.0.numbers
-  numbers_after =
-      rw sized (step.core.knows id (Writer outcome.0) there_after).numbers
+  numbers_after = rw sized (step.core.knows id (Writer outcome.0) there_after).numbers
 
   abbrev pub next_view : View
   next_view = learned view step.after (kept.log ++ step.entries) step.entries marked.now marked.news
@@ -147,14 +146,13 @@ module
       → Shortage shape kept.log desk call outcome counts
       × PolledAll shape desk.retired marked.now.polls) → Advances (ending call outcome.1) view next_view
       → Leads call outcome view next_view
-  leads_so short advances =
-      record {
-        role = role_told;
-        advances = advances;
-        room = room_after;
-        numbers = numbers_after;
-        short = λ counts without. short_after counts without (short counts without).0 (short counts without).1;
-      }
+  leads_so short advances = record {
+    role = role_told;
+    advances = advances;
+    room = room_after;
+    numbers = numbers_after;
+    short = λ counts without. short_after counts without (short counts without).0 (short counts without).1;
+  }
 
   -- the writer's view after the step
   pub writes : (then : View → Type 0) → (Advances (ending call outcome.1) view next_view → then next_view)
@@ -163,6 +161,17 @@ module
       learning kept at step marked (ap caller_number role_told ∙ sym (ap caller_number is))
       sized callers_told acts_told_so names then (writer_is view.role desk is) no_news (ending call outcome.1)
       entries_told tell
+
+  -- to which the call leads, whatever the desk
+  pub leads_on : ((counts : NoSlot) → outcome.1 ≡ Ended (writer.NoSlot counts)
+      → Shortage shape kept.log desk call outcome counts × PolledAll shape desk.retired marked.now.polls)
+      → (then : Desk → View → Type 0) → (Leads call outcome view next_view → then desk next_view)
+      → Choice shape id view operation tells notes state kept step marked
+      (λ next. (other : Desk) → view.role ≡ Writer other → then other next)
+  leads_on short then tell =
+      writes (λ next. (other : Desk) → view.role ≡ Writer other → then other next)
+      (λ advances other also. subst (λ (d : Desk). then d next_view) (same_desk view.role desk other is also)
+      (tell (leads_so short advances)))
 
 pub looks_so : (shape : Shape) (slots id : ℕ) (me : Me (Unit {0}) View) (desk : Desk) (call : WriterCall)
     → me.0.role ≡ Writer desk → desk.place ≡ Idle → IsGivenCall (bound_of shape) call → key_of call < shape.keys
@@ -173,43 +182,36 @@ looks_so shape slots id me desk call is idle given near =
     let tells = Looks shape desk call in
     let notes = LooksMarks shape view.marks desk call in
     let operation = Load (key_of call) in
-    lifts shape id view operation tells notes slots me.1
-    (λ found next. (other : Desk) → view.role ≡ Writer other → Looked other call found view next)
-    view.pasts (subst (λ r. CanStep shape id r operation tells) (sym is) (looks shape id desk call idle given near))
+    let then : ℕ → View → Type 0
+    = λ found next. (other : Desk) → view.role ≡ Writer other → Looked other call found view next in
+    lifts shape id view operation tells notes slots me.1 then view.pasts
+    (subst (λ r. CanStep shape id r operation tells) (sym is) (looks shape id desk call idle given near))
     (looks_marked role_of marks_of shape id view view.pasts desk call idle near is) (knows_pasts shape id view)
-    (sees_plain shape id view operation tells notes
-    (λ found next. (other : Desk) → view.role ≡ Writer other → Looked other call found view next)
-    (key_inside shape (key_of call) near) (key_no_count shape (key_of call) near)
+    (sees_plain shape id view operation tells notes then (key_inside shape (key_of call) near)
+    (key_no_count shape (key_of call) near)
     (λ state kept at step. lends_on view step.after (λ slot. ap (holds slot) step.told.0 ∙ sym (ap (holds slot) is))))
     (λ state kept at step marked.
     let found : ℕ = get_or kept.counted (key_of call) 0 in
     let outcome = looked shape desk call found in
     let c = call_of call in
     let there = at_map role_of state.views id view at ∙ ap some is in
-    let short : (counts : NoSlot) → outcome.1 ≡ Ended (writer.NoSlot counts)
-    → Shortage shape kept.log desk c outcome counts
-    × PolledAll shape desk.retired marked.now.polls = λ counts without. (
+    let size = writer_shape shape kept.log view desk is (kept.fits id view at) in
+    leads_on is kept at step marked marked.told.1 c outcome step.told.0 step.told.1
+    (writer_entries shape c outcome.1 (subst (λ (k : ℕ). k < shape.keys) (sym (key_same call)) near)
+    (given_brings (bound_of shape) call given))
+    (names_go view marked.now (λ _. ap (λ (m : Marks). m.names) marked.told.0)) (λ counts without. (
       look_short shape kept.counted (map role_of state.views) kept.log kept.core id desk there counts call near without,
       look_polled shape
           view.marks desk call found step.after (kept.log ++ step.entries) marked.now marked.news marked.told
           (counts, without),
-    ) in
-    let size = writer_shape shape kept.log view desk is (kept.fits id view at) in
-    let callers
-    = writer_entries shape c outcome.1 (subst (λ (k : ℕ). k < shape.keys) (sym (key_same call)) near)
-    (given_brings (bound_of shape) call given) in
-    let names = names_go view marked.now (λ _. ap (λ (m : Marks). m.names) marked.told.0) in
-    writes is kept at step marked marked.told.1 c outcome step.told.0 step.told.1 callers names
-    (λ next. (other : Desk) → view.role ≡ Writer other → Looked other call found view next)
-    (λ advances other also.
+    ))
+    (λ other. Looked other call found view) (λ leads.
     let next = learned view step.after (kept.log ++ step.entries) step.entries marked.now marked.news in
-    subst (λ (d : Desk). Looked d call found view next) (same_desk view.role desk other is also) (record {
-      leads = subst (λ (s : Shape). Leads c (looked s desk call found) view next) (sym size)
-          (leads_so is kept at step marked marked.told.1 c outcome step.told.0 step.told.1 callers names
-          short advances);
+    record {
+      leads = subst (λ (s : Shape). Leads c (looked s desk call found) view next) (sym size) leads;
       marks = rw marked.told.1 at (rw (sym size) at marked.told);
       heard = ap (λ r. heard_after r view.heard) is;
-    })))
+    }))
 
 -- no later step of a call learns of readers
 put_quiet : (b : Bool) (marks : Marks) (at slot : ℕ) (rows : List Row) (word : ℕ) (after : Role) (log : List Entry)
@@ -344,12 +346,11 @@ module
   finds_so marks names = go desk.place stands_now
     where
       swaps : (key : ℕ) → key < shape.keys → SwapsAt shape key (get_or words key 0) log marks
-      swaps key near =
-          record {
-            state = shows_kind shape words (get_or words key 0) (state_of (map_after shape log) key)
-                (core.shows key near);
-            name = names key near;
-          }
+      swaps key near = record {
+        state = shows_kind shape words (get_or words key 0) (state_of (map_after shape log) key)
+            (core.shows key near);
+        name = names key near;
+      }
 
       go : (at : Place) → StandsAt at → Finds shape at (get_or words (target_of (going shape desk at)) 0) log marks
       go (Reading call slot got) reads = (
@@ -426,16 +427,13 @@ goes_so shape slots id me desk is busy heard in_order =
     let notes = GoesMarks shape view.marks view.pasts desk in
     let operation = going shape desk desk.place in
     let c = call_at desk.place in
-    lifts shape id view operation tells notes slots me.1
-    (λ found next. (other : Desk) → view.role ≡ Writer other → Went other found view next) view.pasts
+    let then : ℕ → View → Type 0
+    = λ found next. (other : Desk) → view.role ≡ Writer other → Went other found view next in
+    lifts shape id view operation tells notes slots me.1 then view.pasts
     (subst (λ r. CanStep shape id r operation tells) (sym is) (goes shape id desk busy))
     (goes_marked role_of marks_of shape id view view.pasts desk is busy in_order) (knows_pasts shape id view)
     (λ state kept at step.
-    let core = kept.core in
-    let there : get_elem? (map role_of state.views) id ≡ some (Writer desk)
-    = at_map role_of state.views id view at ∙ ap some is in
-    let then : ℕ → View → Type 0
-    = λ found next. (other : Desk) → view.role ≡ Writer other → Went other found view next in
+    let there = at_map role_of state.views id view at ∙ ap some is in
     let lent_stays : KeepsLent shape id view operation tells
     = λ _ _ _ made. lends_on view made.after (λ slot. ap (holds slot) made.told.0 ∙ sym (ap (holds slot) is)) in
     ⊎_elim
@@ -443,42 +441,34 @@ goes_so shape slots id me desk is busy heard in_order =
     state kept at step)
     (λ (polls : Polls shape view.announcers view.heard operation). sees_alone shape id view operation tells notes then
     polls.0 (ap is_writer is) polls.1 polls.2 polls.3 (λ _ _ _. polls.4) lent_stays state kept at step)
-    (going_on shape kept.counted (map role_of state.views) kept.log core id desk there view.announcers view.heard
+    (going_on shape kept.counted (map role_of state.views) kept.log kept.core id desk there view.announcers view.heard
     busy heard))
     (λ state kept at step marked.
-    let found : ℕ = get_or kept.counted (target_of operation) 0 in let outcome = went shape desk desk.place found in
+    let found : ℕ = get_or kept.counted (target_of operation) 0 in
+    let outcome = went shape desk desk.place found in
     let there : get_elem? (map role_of state.views) id ≡ some (Writer desk)
     = at_map role_of state.views id view at ∙ ap some is in
-    let own
-    = rw is at (kept.marked.each id view at) in
-    let sweep = own.sweep in
-    let short : (counts : NoSlot) → outcome.1 ≡ Ended (writer.NoSlot counts)
-    → Shortage shape kept.log desk c outcome counts
-    × PolledAll shape desk.retired marked.now.polls = λ counts without. (
-      go_short shape kept.counted (map role_of state.views) kept.log kept.core id desk there counts without,
-      go_polled shape view.marks view.pasts
-          desk found step.after (kept.log ++ step.entries) marked.now marked.news state.views desk.place sweep
-          marked.told (counts, without),
-    ) in
+    let own = rw is at (kept.marked.each id view at) in
     let size = writer_shape shape kept.log view desk is (kept.fits id view at) in
     let entries : step.entries ≡ ending c outcome.1 = step.told.1 ∙ ending_there desk.place outcome.1 busy in
-    let callers
-    = entries_there shape kept.counted (map role_of state.views) kept.log kept.core id desk there busy found in
     let no_news
     = went_quiet shape view.marks view.pasts desk desk.place found step.after (kept.log ++ step.entries) marked.now
     marked.news marked.told in
-    let names : NamesGo view marked.now
-    = λ _ key slot after. rw is
+    leads_on is kept at step marked no_news c outcome step.told.0 entries
+    (entries_there shape kept.counted (map role_of state.views) kept.log kept.core id desk there busy found)
+    (λ _ key slot after. rw is
     (went_names shape view.marks view.pasts desk desk.place found step.after (kept.log ++ step.entries) marked.now
-    marked.news view.heard marked.told key slot after) in
-    writes is kept at step marked no_news c outcome step.told.0 entries
-    callers names (λ next. (other : Desk) → view.role ≡ Writer other → Went other found view next)
-    (λ advances other also.
+    marked.news view.heard marked.told key slot after))
+    (λ counts without. (
+      go_short shape kept.counted (map role_of state.views) kept.log kept.core id desk there counts without,
+      go_polled shape view.marks view.pasts
+          desk found step.after (kept.log ++ step.entries) marked.now marked.news state.views desk.place own.sweep
+          marked.told (counts, without),
+    ))
+    (λ other. Went other found view) (λ leads.
     let next = learned view step.after (kept.log ++ step.entries) step.entries marked.now marked.news in
-    subst (λ (d : Desk). Went d found view next) (same_desk view.role desk other is also) (record {
-      leads =
-          subst (λ (s : Shape). Leads c (went s desk desk.place found) view next) (sym size)
-          (leads_so is kept at step marked no_news c outcome step.told.0 entries callers names short advances);
+    record {
+      leads = subst (λ (s : Shape). Leads c (went s desk desk.place found) view next) (sym size) leads;
       log = kept.log;
       seen =
           ap (λ (l : List Entry). kept.log ++ l)
@@ -489,7 +479,7 @@ goes_so shape slots id me desk is busy heard in_order =
       notes = notes_so shape state kept view.marks.polls marked.now.polls marked.noted;
       marks = rw (size, sym no_news) marked.told;
       heard = ap (λ r. heard_after r view.heard) is;
-    })))
+    }))
 
 -- what a step told, told otherwise
 pub tells_also : (holds : State (Unit {0}) View → Type 0) (slots id : ℕ) (me : Me (Unit {0}) View) (place : ℕ)

@@ -12,8 +12,7 @@ and_load loads place word = loads ++ record { place = place; word = word } ∷ [
 
 -- the token counts the step, and says what it loaded
 abbrev pub with_load : ℕ → ℕ → View → View
-with_load place word view =
-    record view { steps = view.steps + 1; loaded_ahead = and_load view.loaded_ahead place word }
+with_load place word view = record view { steps = view.steps + 1; loaded_ahead = and_load view.loaded_ahead place word }
 
 abbrev pub has_loaded : Then
 has_loaded step (before, _) found (after, _) = after ≡ with_load step.word found before

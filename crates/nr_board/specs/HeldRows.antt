@@ -17,25 +17,24 @@ pub record Gave {FROM : ℕ} (first : HeldRows FROM) (count : ℕ) (last : HeldR
   pub rests : Rests (2 * count) (token first.seat.now) (token last.seat.now)
 
 pub gives_none : {FROM : ℕ} (source : HeldRows FROM) → Gave source 0 source
-gives_none source =
-    record {
-      name = refl;
-      board = refl;
-      begin = refl;
-      rows = refl;
-      hold = refl;
-      marks = refl;
-      says = refl;
-      rests = record {
-        table = refl;
-        number = refl;
-        seen = refl;
-        mine = refl;
-        steps_made = omega arith;
-        pasts = refl;
-        loaded_ahead = refl;
-      };
-    }
+gives_none source = record {
+  name = refl;
+  board = refl;
+  begin = refl;
+  rows = refl;
+  hold = refl;
+  marks = refl;
+  says = refl;
+  rests = record {
+    table = refl;
+    number = refl;
+    seen = refl;
+    mine = refl;
+    steps_made = omega arith;
+    pasts = refl;
+    loaded_ahead = refl;
+  };
+}
 
 pub gives_more : {FROM : ℕ} (first mid last : HeldRows FROM) (count : ℕ) → Gave first count mid → Gave mid 1 last
     → Gave first (count + 1) last

@@ -14,14 +14,13 @@ pub record GaveRecalled (first : Recalled) (count : ℕ) (last : Recalled) : Typ
   pub waits : view_of last.seat.now ≡ waited (2 * count) (view_of first.seat.now)
 
 pub gives_none : (source : Recalled) → GaveRecalled source 0 source
-gives_none source =
-    record {
-      name = refl;
-      board = refl;
-      slot = refl;
-      own = refl;
-      waits = λ j. record (view_of source.seat.now) { steps = none j };
-    }
+gives_none source = record {
+  name = refl;
+  board = refl;
+  slot = refl;
+  own = refl;
+  waits = λ j. record (view_of source.seat.now) { steps = none j };
+}
   where
     none : (view_of source.seat.now).steps ≡ (view_of source.seat.now).steps + 2 * 0
     none = omega arith

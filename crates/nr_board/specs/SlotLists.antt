@@ -18,14 +18,13 @@ desk_with lists place = record { place = place; fresh = lists.fresh; retired = l
 
 -- those of a writer's token
 abbrev pub lists_of : Caller → SlotLists
-lists_of caller =
-    record {
-      slots = caller.table.shape.slots;
-      fresh = caller.fresh;
-      retired = caller.retired;
-      numbers = caller.numbers;
-      reaped = caller.marks.reaped;
-    }
+lists_of caller = record {
+  slots = caller.table.shape.slots;
+  fresh = caller.fresh;
+  retired = caller.retired;
+  numbers = caller.numbers;
+  reaped = caller.marks.reaped;
+}
 
 -- the retired slots that are not passed by
 abbrev pub not_passed : (ℕ → Bool) → List Retired → List Retired

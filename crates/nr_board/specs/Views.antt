@@ -104,23 +104,22 @@ no_plan = record { shape = no_shape; announcers = 0 }
 
 -- the view of a token that is no caller, and of no map
 abbrev pub no_view : View
-no_view =
-    record {
-      role = Note;
-      shape = no_shape;
-      announcers = 0;
-      made = 0;
-      seen = [];
-      told = [];
-      mine = [];
-      steps = 0;
-      marks = no_marks;
-      pasts = [];
-      told_pasts = [];
-      says = 0;
-      heard = [];
-      loaded_ahead = [];
-    }
+no_view = record {
+  role = Note;
+  shape = no_shape;
+  announcers = 0;
+  made = 0;
+  seen = [];
+  told = [];
+  mine = [];
+  steps = 0;
+  marks = no_marks;
+  pasts = [];
+  told_pasts = [];
+  says = 0;
+  heard = [];
+  loaded_ahead = [];
+}
 
 -- the first token is the writer's
 abbrev pub opener : Plan → View

@@ -1,8 +1,6 @@
-use Rattle.std.proofs.Common.{ap, sym, ◌∙◌}
 use Rattle.nr_board.proofs.BoardPlaces.{key_in, key_near, same_id, stands}
 use Rattle.nr_board.proofs.ReaderSeats.{held_seat, hole_seat}
 use Rattle.nr_board.proofs.ReaderSteps.{arrives_so}
-use Rattle.nr_board.specs.Callers.{Table}
 use Rattle.nr_board.proofs.board.Board.arrive.Goals as goal
 
 pub fetch_add-requires : goal.fetch_add-requires

@@ -1,8 +1,6 @@
-use Rattle.std.proofs.Common.{ap, sym, ◌∙◌}
 use Rattle.nr_board.proofs.BoardPlaces.{key_in, key_near, same_id, stands}
 use Rattle.nr_board.proofs.ReaderSeats.{asked_seat}
 use Rattle.nr_board.proofs.ReaderSteps.{asks_so}
-use Rattle.nr_board.specs.Callers.{Table}
 use Rattle.nr_board.proofs.board.Board.ask.Goals as goal
 
 pub fetch_or-requires : goal.fetch_or-requires

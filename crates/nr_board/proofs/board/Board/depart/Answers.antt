@@ -1,10 +1,9 @@
-use Rattle.std.proofs.Common.{ap, arith, sym, ℕ, ◌-◌, ◌∙◌, ◌≡◌}
+use Rattle.std.proofs.Common.{ap, arith, ℕ, ◌-◌, ◌≡◌}
 use Rattle.nr_core.specs.Slots.{departures}
 use Rattle.nr_core.specs.declared.shape.Shape.{Shape}
 use Rattle.nr_board.proofs.BoardPlaces.{departures_at, departures_in, own_shape, same_id, stands}
 use Rattle.nr_board.proofs.ReaderSeats.{departed_seat}
 use Rattle.nr_board.proofs.ReaderSteps.{departs_so}
-use Rattle.nr_board.specs.Callers.{Table}
 use Rattle.nr_board.specs.Views.{slot_held}
 use Rattle.nr_board.proofs.board.Board.depart.Goals as goal
 

@@ -1,8 +1,6 @@
-use Rattle.std.proofs.Common.{ap, sym, ◌∙◌}
 use Rattle.nr_board.proofs.BoardPlaces.{key_in, key_near, same_id, stands}
 use Rattle.nr_board.proofs.Gathering.{learned_numbers, learns_seat}
 use Rattle.nr_board.proofs.Learning.{learns_so}
-use Rattle.nr_board.specs.Callers.{Table}
 use Rattle.nr_board.proofs.board.Board.learn_at.Goals as goal
 
 pub load-requires : goal.load-requires

@@ -7,7 +7,6 @@ use Rattle.nr_board.proofs.BoardPlaces.{key_in, key_near, same_id, stands}
 use Rattle.nr_board.proofs.WriterSteps.{looks_so}
 use Rattle.nr_core.specs.declared.places.Place.{Place}
 use Rattle.nr_board.specs.Announcing.{heard_at}
-use Rattle.nr_board.specs.Callers.{Table}
 use Rattle.nr_board.proofs.board.Board.look.Goals as goal
 use Rattle.nr_core.specs.Slots.{bound_of}
 

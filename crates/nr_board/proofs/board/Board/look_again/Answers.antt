@@ -1,10 +1,9 @@
-use Rattle.std.proofs.Common.{ap, arith, sym, ℕ, ◌∙◌, ◌≡◌}
+use Rattle.std.proofs.Common.{ap, arith, sym, ℕ, ◌≡◌}
 use Rattle.nr_core.specs.Slots.{content, names_slot}
 use Rattle.nr_board.proofs.BoardPlaces.{key_in, key_near, own_shape, same_id, stands}
 use Rattle.nr_board.proofs.ReaderSeats.{again_exact, again_gains, again_holds, again_learns, again_marks, held_gripped}
 use Rattle.nr_board.proofs.ReaderSeats.{held_inside, held_slot}
 use Rattle.nr_board.proofs.ReaderSteps.{finds_again_so}
-use Rattle.nr_board.specs.Callers.{Table}
 use Rattle.nr_board.specs.Views.{slot_held}
 use Rattle.nr_board.proofs.board.Board.look_again.Goals as goal
 

@@ -1,8 +1,7 @@
-use Rattle.std.proofs.Common.{ap, sym, ◌∙◌}
+use Rattle.std.proofs.Common.{ap}
 use Rattle.nr_core.specs.Slots.{name_number}
 use Rattle.nr_board.proofs.BoardPlaces.{key_in, same_id, stands}
 use Rattle.nr_board.proofs.Notes.{ahead_token, looks_ahead_so}
-use Rattle.nr_board.specs.Callers.{Table}
 use Rattle.nr_board.specs.Views.{View}
 use Rattle.nr_board.proofs.board.Board.look_ahead.Goals as goal
 

@@ -1,23 +1,18 @@
-use Rattle.std.proofs.Common.{Bool, ap, arith, cond, get_or, length, refl, subst, sym, ℕ, ◌*◌, ◌+◌, ◌∙◌, ◌≡◌}
+use Rattle.std.proofs.Common.{Bool, ap, arith, cond, get_or, length, refl, subst, ℕ, ◌*◌, ◌+◌, ◌≡◌}
 use Rattle.std.proofs.lemmas.Bool.{lt-leb}
-use Rattle.atomic_table.specs.Table.{Allows, Me}
 use Rattle.nr_words.specs.SetWords.{encode}
-use Rattle.nr_core.specs.Operations.{becomes, going, target_of}
+use Rattle.nr_core.specs.Operations.{going}
 use Rattle.nr_core.specs.declared.operation.Operation.{Operation}
 use Rattle.nr_core.specs.declared.operation.Operation.TheVariants.{Store, Swap}
 use Rattle.nr_words.specs.KeyWords.{naming}
 use Rattle.nr_core.specs.Slots.{content}
 use Rattle.nr_core.specs.States.{key_of}
 use Rattle.nr_core.specs.declared.places.Place.TheVariants.{Putting}
-use Rattle.nr_core.specs.declared.roles.Desk.{Desk}
-use Rattle.nr_core.specs.declared.roles.Role.TheVariants.{Writer}
 use Rattle.nr_board.proofs.WriterSeats.{desk_at, goes_on}
 use Rattle.nr_board.proofs.BoardPlaces.{key_in, same_id, stands}
 use Rattle.nr_board.proofs.WriterSteps.{goes_so}
 use Rattle.nr_board.specs.Callers.{Table}
-use Rattle.nr_board.specs.Plays.{RoomAt, Went}
-use Rattle.nr_board.specs.Rule.{Kept}
-use Rattle.nr_board.specs.Views.{View}
+use Rattle.nr_board.specs.Plays.{RoomAt}
 use Rattle.nr_board.proofs.board.Board.publish.Goals as goal
 
 pub naming-word-requires : goal.naming-word-requires
@@ -46,19 +41,15 @@ swap-requires c =
     (Store (content shared.key.shape slot last) (get_or (encode rows) last 0))
     (Swap (key_of call) word)) (lt-leb last (2 * length rows) (omega arith)) in
     let n : ℕ = shared.table_id.slots in
-    let told : ℕ → Me (Unit {0}) View → Type 0
-    = λ found after. (other : Desk) → seat.me.0.role ≡ Writer other → Went other found seat.me.0 after.0 in
     let allows
-    = subst (λ (o : Operation). Allows (Kept shared.key.shape) n seat.id seat.me (target_of o) (becomes o) told)
-    operation
+    = rw operation at
     (goes_so shared.key.shape n seat.id seat.me at
     (desk_at seat.me.0.role publishing.desk (Putting call rows slot c.args.departed last) publishing.writes.role
     publishing.place)
     refl tt tt) in (
       same_id publishing.writes.own c.self.view_is,
       key_in board c.requires.key,
-      subst (λ (p : ℕ × ℕ). Allows (Kept shared.key.shape) n seat.id seat.me p.0 (λ _. p.1) told)
-          (λ j. (sym publishing.key_is j, sym c.naming-word.ensures j)) allows,
+      rw (publishing.key_is, c.naming-word.ensures) allows,
     )
 
 pub returns : goal.returns

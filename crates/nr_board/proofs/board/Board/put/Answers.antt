@@ -1,13 +1,8 @@
-use Rattle.std.proofs.Common.{ap, arith, subst, sym, ℕ, ◌∙◌, ◌≡◌}
-use Rattle.atomic_table.specs.Table.{Allows}
-use Rattle.nr_core.specs.declared.roles.Desk.{Desk}
-use Rattle.nr_core.specs.declared.roles.Role.TheVariants.{Writer}
+use Rattle.std.proofs.Common.{arith, subst, ℕ}
 use Rattle.nr_board.proofs.BoardPlaces.{content_at, content_fits, content_in, same_id, stands}
 use Rattle.nr_board.proofs.WriterSeats.{put_seat}
 use Rattle.nr_board.proofs.WriterSteps.{puts_so}
-use Rattle.nr_board.specs.Callers.{Table}
-use Rattle.nr_board.specs.Plays.{Put, RoomAt}
-use Rattle.nr_board.specs.Rule.{Kept}
+use Rattle.nr_board.specs.Plays.{RoomAt}
 use Rattle.nr_board.proofs.board.Board.put.Goals as goal
 
 pub overflow_add-place : goal.overflow_add-place
@@ -31,13 +26,7 @@ store-requires c =
       same_id putting.writes.own c.self.view_is,
       content_in board putting.slot room.0 c.args.begin c.args.index putting.begin_is
           (omega (arith, putting.more, room.1.1)),
-      subst
-          (λ (p : ℕ × ℕ). Allows (Kept shared.key.shape) n seat.id seat.me p.0 (λ _. p.1)
-          (λ _ after. (other : Desk) → seat.me.0.role ≡ Writer other
-          → Put other seat.me.0 after.0)) (λ j. (
-            sym (content_at board putting.slot room.0 c.args.begin c.args.index putting.begin_is) j,
-            sym putting.word_is j,
-          ))
+      rw (content_at board putting.slot room.0 c.args.begin c.args.index putting.begin_is, putting.word_is)
           (puts_so shared.key.shape n seat.id seat.me putting.desk putting.call putting.rows putting.slot
           putting.departed c.args.index putting.writes.role putting.place putting.more),
     )

@@ -1,5 +1,5 @@
-use Rattle.std.proofs.Common.{arith, refl, subst, ℕ, ◌*◌, ◌+◌, ◌≡◌}
-use Rattle.nr_board.proofs.Publishing.{PutSoFar, put_more, put_none, puts_next}
+use Rattle.std.proofs.Common.{arith, refl, ℕ, ◌*◌, ◌+◌, ◌≡◌}
+use Rattle.nr_board.proofs.Publishing.{put_more, put_none, puts_next}
 use Rattle.nr_board.proofs.Rows.{row_words_at}
 use Rattle.nr_board.specs.Views.{desk_of}
 use Rattle.nr_board.proofs.board.Board.put_rows.Goals as goal
@@ -27,7 +27,5 @@ pub loop-i-preserved : goal.loop-i-preserved
 loop-i-preserved g c =
     let i : ℕ = c.loop-i.i in
     let two_more : 2 * i + 1 + 1 + 1 ≡ 2 * (i + 1) + 1 = omega arith in
-    subst
-    (PutSoFar c.args.self.now (desk_of c.args.seat.now.me.0.role) g.G.BegunCall.call c.args.rows.now
-    c.args.taken.slot c.args.taken.departures c.args.seat.now c.put-in-loop-i-2.new.seat)
-    two_more (put_more (put_more c.loop-i.invariant c.put-in-loop-i.ensures) c.put-in-loop-i-2.ensures)
+    rw two_more at
+    (put_more (put_more c.loop-i.invariant c.put-in-loop-i.ensures) c.put-in-loop-i-2.ensures)

@@ -1,10 +1,9 @@
-use Rattle.std.proofs.Common.{ap, arith, refl, subst, sym, ℕ, ◌∙◌}
+use Rattle.std.proofs.Common.{ap, arith, refl, subst, ℕ, ◌∙◌}
 use Rattle.nr_core.specs.Slots.{content}
 use Rattle.nr_core.specs.declared.places.Place.TheVariants.{Reading}
 use Rattle.nr_board.proofs.BoardPlaces.{content_at, content_fits, content_in, same_id, stands}
 use Rattle.nr_board.proofs.WriterSeats.{desk_at, goes_on}
 use Rattle.nr_board.proofs.WriterSteps.{goes_so}
-use Rattle.nr_board.specs.Callers.{Table}
 use Rattle.nr_board.specs.Plays.{RoomAt}
 use Rattle.nr_board.proofs.board.Board.read_on.Goals as goal
 

@@ -1,11 +1,10 @@
-use Rattle.std.proofs.Common.{ap, false, refl, subst, sym, ℕ, ◌+◌, ◌∙◌, ◌≡◌}
+use Rattle.std.proofs.Common.{ap, false, refl, subst, ℕ, ◌+◌, ◌∙◌, ◌≡◌}
 use Rattle.nr_words.specs.KeyWords.{hole_word}
 use Rattle.nr_core.specs.States.{number_at}
 use Rattle.nr_core.specs.declared.places.Place.TheVariants.{Withdrawing}
 use Rattle.nr_board.proofs.WriterSeats.{desk_at, goes_on}
 use Rattle.nr_board.proofs.BoardPlaces.{key_in, same_id, stands}
 use Rattle.nr_board.proofs.WriterSteps.{goes_so}
-use Rattle.nr_board.specs.Callers.{Table}
 use Rattle.nr_board.specs.Plays.{RoomAt}
 use Rattle.nr_board.proofs.board.Board.withdraw.Goals as goal
 
