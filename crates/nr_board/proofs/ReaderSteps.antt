@@ -1,7 +1,7 @@
 -- The reader's steps on the table: request, arrive, read, find again, depart.
 use Rattle.std.proofs.Common.{get_or-set_other, inr, ◌≡◌, ℕ, suc, ◌+◌, ◌-◌, ◌%◌, ◌^◌, ◌<◌, ◌≤◌, List, [], ◌∷◌, ◌++◌}
-use Rattle.std.proofs.Common.{Bool, true, false, cond, length, map, get_or, set, ⊎_elim, refl, sym, ap, ◌∙◌, subst, arith}
-use Rattle.std.proofs.Common.{eq-eqb}
+use Rattle.std.proofs.Common.{Bool, true, false, cond, length, map, get_or, set, ⊎_elim, refl, sym, ap, ◌∙◌, subst}
+use Rattle.std.proofs.Common.{arith, eq-eqb}
 use Rattle.std.specs.Prelude.{bit_or}
 use mathlib.Core.Option.{none, some}
 use Rattle.atomic_table.specs.Table.{Allows, Me, State, step}
@@ -108,7 +108,8 @@ module
       (names_go view marked.now (reads_only view marked.now (ap is_writer is))) then (reader_is is) no_news told told_is
       tell
 
-  pub reads_still : told ≡ [] → (let next = waited view step.after marked.now marked.news in Waits view next → then next)
+  pub reads_still : told ≡ []
+      → (let next = waited view step.after marked.now marked.news in Waits view next → then next)
       → Choice shape id view operation tells notes state kept step marked then
   reads_still quiet tell =
       waiting kept at step marked (ap caller_number after) sized (rw (told_is ∙ quiet) tt)

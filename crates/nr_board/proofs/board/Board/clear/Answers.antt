@@ -18,7 +18,8 @@ store-requires c =
       same_id c.requires.own c.self.view_is,
       said_in board c.args.own.index within is,
       rw (said_at board c.args.own.index is)
-          (says_so shared.key.shape n seat.id c.args.own.index 0 seat.me c.requires.word (own_shape board c.requires.own)
+          (says_so shared.key.shape n seat.id c.args.own.index 0 seat.me c.requires.word
+          (own_shape board c.requires.own)
           (holds_by_word c.args.self.now.shape shared.key.shape seat.me.0 (sym board.key_is) c.requires.free)),
     )
 
