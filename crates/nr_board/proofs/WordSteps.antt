@@ -1,7 +1,7 @@
 -- A reader's steps by its own word: it looks a key up, announces a slot, confirms it, and ends the announcement.
 use Rattle.std.proofs.Common.{◌≡◌, ◌≢◌, ℕ, suc, ◌+◌, ◌-◌, ◌%◌, ◌^◌, ◌<◌, ◌⊎◌, ⊎_elim, inr, List, [], ◌∷◌, ◌++◌}
-use Rattle.std.proofs.Common.{Bool, true, cond, length-set, map, get_or, get_or-set_same, set, refl, sym, ap, ◌∙◌, subst}
-use Rattle.std.proofs.Common.{arith, lt-ltb}
+use Rattle.std.proofs.Common.{Bool, true, cond, length-set, map, get_or, get_or-set_same, set, refl, sym, ap, ◌∙◌}
+use Rattle.std.proofs.Common.{subst, arith, lt-ltb}
 use Rattle.std.specs.Prelude.{nat_lt}
 use Rattle.std.proofs.lemmas.Bool.{eqb-true}
 use mathlib.Core.Option.{none, some}
