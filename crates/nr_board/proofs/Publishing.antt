@@ -109,10 +109,8 @@ module
       (moved_to desk (Putting call rows slot departed (last + 1)), Going) (swapped desk found, ended reply.Done))
       (lt-leb last (2 * length rows) (omega arith)) in
       let leads = subst (λ (o : Desk × Step). LeadsIn 1 table (call_of call) o mid after) outcome told.leads in
-      let marks
-      = rw (lt-leb last (2 * length rows) (omega arith)) at told.marks in
-      let swaps
-      = rw (lt-leb last (2 * length rows) (omega arith)) at told.finds in
+      let marks = rw (lt-leb last (2 * length rows) (omega arith)) at told.marks in
+      let swaps = rw (lt-leb last (2 * length rows) (omega arith)) at told.finds in
       let only_polls = marks_stay ∙ took.marks
       ∙ ap (λ (m : Marks). with_scan before.me.0.marks m.polls (before.me.0.marks.loads ++ took.loads))
       (sym marks_stay) in

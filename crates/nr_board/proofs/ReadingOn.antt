@@ -296,8 +296,7 @@ module _ (table : Table) (call : WriterCall) (begin : ℕ) (before : MapSeat) wh
       → ReadTo other call begin other_before last (2 * count + 1)
       → ReadsAll table call rows before last
   reads_all mid last other_before other count rows size rows_are same own begun read =
-      let all
-      = rw begun at (rw own at read) in
+      let all = rw begun at (rw own at read) in
       let named = ap (λ (t : Table). rows_named t call last) (sym own) ∙ same ∙ sym rows_are in
       let row_set : IsRowSet (bound_of table.shape) rows = subst (IsRowSet (bound_of table.shape)) named all.row_set in
       let length_is : count ≡ length rows = size ∙ ap length (sym rows_are) in

@@ -29,8 +29,7 @@ recalls_so shape slots id me place state kept homes at bounded =
       record {
         step = refl;
         finds = λ desk slot index is near untouched there.
-            let mine
-            = rw is at (kept.marked.each id view at) in
+            let mine = rw is at (kept.marked.each id view at) in
             let size = fits.sized (let one : is_writer view.role ≡ 1 = ap is_writer is in omega arith) in
             subst
             (λ (s : Shape). slot < s.slots → place ≡ content s slot index

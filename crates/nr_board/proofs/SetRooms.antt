@@ -1,5 +1,5 @@
 -- A room that is a set: the rows that it shows are its value.
-use Rattle.std.proofs.Common.{◌≡◌, List, subst, sym}
+use Rattle.std.proofs.Common.{◌≡◌, List}
 use Rattle.nr_model.specs.declared.rows.Row.{Row}
 use Rattle.nr_core.specs.declared.calls.WriterCall.{WriterCall}
 use Rattle.nr_board.specs.Callers.{Table}
@@ -8,5 +8,4 @@ use Rattle.nr_board.specs.WriterSeats.{MapSeat}
 
 pub reads_set : {table : Table} {call : WriterCall} {before after : MapSeat} {rows : List Row}
     → ((set : List Row) × (rows ≡ set) × ReadsAll table call set before after) → ReadsAll table call rows before after
-reads_set {table = table} {call = call} {before = before} {after = after} (set, same, reads) =
-    subst (λ (r : List Row). ReadsAll table call r before after) (sym same) reads
+reads_set (set, same, reads) = rw same reads

@@ -101,10 +101,8 @@ pub has_set : {table : Table} {lists : SlotLists} {steps : ℕ} {call : WriterCa
     → LeadsIn steps table (call_of call) (settled table.shape (desk_with lists Idle) call rows) before mid
     → mid.me.0.marks ≡ with_polls before.me.0.marks [] → mid.me.0.heard ≡ before.me.0.heard
     → HasSet table lists steps call rows before mid
-has_set {table = table} {lists = lists} {steps = steps} {call = call} {rows = rows} {before = before} {mid = mid} rests
-    leads marks heard =
-    let grows
-    = rw (settled_quiet table.shape (desk_with lists Idle) call rows (call_of call)) at leads.grows in
+has_set {table} {lists} {steps} {call} {rows} {before} {mid} rests leads marks heard =
+    let grows = rw (settled_quiet table.shape (desk_with lists Idle) call rows (call_of call)) at leads.grows in
     record {
       rests = rests;
       settles = record {
@@ -266,8 +264,7 @@ pub has_evicted : {table : Table} {lists after_lists : SlotLists} {key word foun
     × RetiresOne key (token before) (token before).retired (token after).retired
     × (after.me.0.marks ≡ without_name (with_polls before.me.0.marks []) key)
     × (after.me.0.heard ≡ before.me.0.heard))
-has_evicted {table = table} {lists = lists} {after_lists = after_lists} {key = key} {found = found} {before = before}
-    {mid = mid} {after = after} looks leaves goes retires =
+has_evicted {table} {lists} {after_lists} {key} {word} {found} {before} {mid} {after} looks leaves goes retires =
     let gone = goes (desk_with lists (Leaving key)) (about_to_go looks leaves).writes.role in
     let (rests_after, gains)
     = swap_ends looks leaves reply.Evicted after_lists after (ap (λ (s : SlotLists). s.slots) retires)
@@ -307,8 +304,7 @@ pub has_cancelled : {table : Table} {lists after_lists : SlotLists} {key word fo
     × (lists_of (token after) ≡ record (lists_of (token before))
     { numbers = slice_set (token before).numbers key (slice_index (token before).numbers key + 1) })
     × (after.me.0.marks ≡ with_polls before.me.0.marks []) × (after.me.0.heard ≡ before.me.0.heard))
-has_cancelled {table = table} {lists = lists} {after_lists = after_lists} {key = key} {before = before} {mid = mid}
-    {after = after} looks withdraws goes renumbers =
+has_cancelled {table} {lists} {after_lists} {key} {word} {found} {before} {mid} {after} looks withdraws goes renumbers =
     let gone = goes (desk_with lists (Withdrawing key)) (about_to_go looks withdraws).writes.role in
     let (rests_after, gains)
     = swap_ends looks withdraws reply.Cancelled after_lists after (ap (λ (s : SlotLists). s.slots) renumbers)
@@ -347,8 +343,7 @@ module _ {table : Table} {lists : SlotLists} {call given : WriterCall} {found : 
   has_read {rows = rows} {after = after} read =
       let outcome = λ (desk : Desk) (c : WriterCall). decided table.shape desk c rows in
       let same = ap desk_of leads_there.writes.role in
-      let then
-      = rw is at (rw same at read.leads) in
+      let then = rw is at (rw same at read.leads) in
       record {
         own = looks.own;
         rests = looks.rests;
@@ -458,8 +453,7 @@ module
           × KeyHad key rows (token before) published.gains.between × (published.slot ≡ put.slot))
       has_updated {mid = mid} {last = last} {after_lists = after_lists} set grown put =
           let so = has_published set given_is put in
-          let here
-          = rw given_is at put in
+          let here = rw given_is at put in
           let then = (grown _ here.grows).1 in
           let all = so.1.gains in (
             so.0,
