@@ -1,6 +1,6 @@
 -- Polls of slots that are held, one for each of a list.
-use Rattle.std.proofs.Common.{◌≡◌, ℕ, zero, suc, ◌+◌, List, [], ◌∷◌, ◌++◌, Bool, true, false, length, take, drop}
-use Rattle.std.proofs.Common.{get_or, refl, sym, ap, ◌∙◌, arith, append-nil, append_assoc, length-append, take-suc}
+use Rattle.std.proofs.Common.{◌≡◌, ◌≢◌, ℕ, zero, suc, ◌+◌, List, [], ◌∷◌, ◌++◌, Bool, true, false, length, take, drop}
+use Rattle.std.proofs.Common.{get_or, refl, sym, ap, ◌∙◌, arith, append-nil, append_assoc, length-take-le, take-suc}
 use Rattle.std.proofs.lemmas.List.{take-append-drop}
 use mathlib.Core.Option.{some, some-injective, some-ne-none}
 use lib.ListN.{get_elem?, length-map}
@@ -9,9 +9,9 @@ use mathlib.Core.List.{map-append}
 use Rattle.nr_core.proofs.Choices.{by_cases}
 use Rattle.nr_core.specs.declared.places.Retired.{Retired}
 use Rattle.nr_core.specs.Marks.{OfSlot, LoggedLoad}
+use Rattle.nr_board.proofs.Keepers.{at_behind}
 use Rattle.nr_board.proofs.PollNotes.{StandsAt, there_is}
-use Rattle.nr_core.proofs.ListPlaces.{inside}
-use Rattle.nr_board.specs.HeldSlots.{PolledTo}
+use Rattle.nr_core.proofs.ListPlaces.{at_left, inside}
 use Rattle.nr_board.specs.SlotLists.{held_polls, not_passed}
 
 abbrev held_poll : Retired → LoggedLoad
@@ -64,11 +64,6 @@ module _ (passes : ℕ → Bool) {retired : List Retired} {place : ℕ} {entry :
       → not_passed passes (take (place + 1) retired) ≡ not_passed passes (take place retired) ++ entry ∷ []
   up_to_polled stays = up_to_here ∙ rw stays refl
 
-  pub one_more_polled : passes entry.slot ≡ false
-      → length (not_passed passes (take (place + 1) retired)) ≡ length (not_passed passes (take place retired)) + 1
-  one_more_polled stays =
-      ap length (up_to_polled stays) ∙ length-append (not_passed passes (take place retired)) (entry ∷ [])
-
   -- and those behind it
   pub split_here : passes entry.slot ≡ false
       → not_passed passes retired
@@ -80,29 +75,55 @@ module _ (passes : ℕ → Bool) {retired : List Retired} {place : ℕ} {entry :
       ∙ ap (λ (l : List Retired). l ++ behind) (up_to_polled stays)
       ∙ append_assoc (not_passed passes (take place retired)) (entry ∷ []) behind
 
--- each of them is reached before that place, and isn't passed by
-pub polled_reached : (passes : ℕ → Bool) (retired : List Retired) (place at : ℕ) (entry : Retired)
-    → get_elem? (not_passed passes (take place retired)) at ≡ some entry → PolledTo passes retired place entry.slot
-polled_reached passes [] zero at entry there = absurd (some-ne-none entry (sym there))
-polled_reached passes [] (suc place) at entry there = absurd (some-ne-none entry (sym there))
-polled_reached passes (x ∷ retired) zero at entry there = absurd (some-ne-none entry (sym there))
-polled_reached passes (x ∷ retired) (suc place) at entry there =
-    let behind = λ (n : ℕ) (is : get_elem? (not_passed passes (take place retired)) n ≡ some entry).
-    reached_behind (polled_reached passes retired place n entry is) in
-    by_cases (λ b. passes x.slot ≡ b → PolledTo passes (x ∷ retired) (suc place) entry.slot) (passes x.slot)
+-- each that isn't passed by is one of them
+pub polled_there : (passes : ℕ → Bool) {retired : List Retired} {at : ℕ} {entry : Retired}
+    → StandsAt retired at entry → passes entry.slot ≡ false
+    → (place : ℕ) × (get_elem? (not_passed passes retired) place ≡ some entry)
+polled_there passes {retired = retired} {at = at} {entry = entry} here stays =
+    let earlier = not_passed passes (take at retired) in
+    let later = not_passed passes (drop (at + 1) retired) in (
+      length earlier + 0,
+      ap (λ (l : List Retired). get_elem? l (length earlier + 0)) (split_here passes here stays)
+          ∙ at_behind earlier (entry ∷ later) 0,
+    )
+
+-- each of them stands in the list, and isn't passed by
+abbrev StandsIn : (ℕ → Bool) → List Retired → Retired → Type 0
+StandsIn passes retired entry = (place : ℕ) × (get_elem? retired place ≡ some entry) × (passes entry.slot ≡ false)
+
+pub polled_at : (passes : ℕ → Bool) (retired : List Retired) (at : ℕ) (entry : Retired)
+    → get_elem? (not_passed passes retired) at ≡ some entry → StandsIn passes retired entry
+polled_at passes [] at entry there = absurd (some-ne-none entry (sym there))
+polled_at passes (x ∷ retired) at entry there =
+    let behind : (n : ℕ) → get_elem? (not_passed passes retired) n ≡ some entry → StandsIn passes (x ∷ retired) entry
+    = λ n is. let r = polled_at passes retired n entry is in (suc r.0, r.1, r.2) in
+    by_cases (λ b. passes x.slot ≡ b → StandsIn passes (x ∷ retired) entry) (passes x.slot)
     (λ _ gone. behind at (rw gone at there)) (λ _ stays. first stays behind at (rw stays at there)) refl
   where
-    reached_behind : PolledTo passes retired place entry.slot → PolledTo passes (x ∷ retired) (suc place) entry.slot
-    reached_behind (r, stays) = ((suc r.0, r.1, (let low = r.2 in omega arith), r.3, r.4), stays)
-
     first : passes x.slot ≡ false
-        → ((n : ℕ) → get_elem? (not_passed passes (take place retired)) n ≡ some entry
-        → PolledTo passes (x ∷ retired) (suc place) entry.slot)
-        → (n : ℕ) → get_elem? (x ∷ not_passed passes (take place retired)) n ≡ some entry
-        → PolledTo passes (x ∷ retired) (suc place) entry.slot
+        → ((n : ℕ) → get_elem? (not_passed passes retired) n ≡ some entry → StandsIn passes (x ∷ retired) entry)
+        → (n : ℕ) → get_elem? (x ∷ not_passed passes retired) n ≡ some entry → StandsIn passes (x ∷ retired) entry
     first stays behind zero is =
-        let same = some-injective x entry is in (
-          (zero, x, omega arith, refl, ap (λ (e : Retired). e.slot) same),
-          ap (λ (e : Retired). passes e.slot) (sym same) ∙ stays,
-        )
+        (zero, is, ap (λ (e : Retired). passes e.slot) (sym (some-injective x entry is)) ∙ stays)
     first stays behind (suc n) is = behind n is
+
+-- none of those before a place is the one there, where the slots of the list are different
+pub polled_before : (passes : ℕ → Bool) {retired : List Retired} {place : ℕ} {entry : Retired}
+    → StandsAt retired place entry
+    → ((one other : ℕ) (a b : Retired) → get_elem? retired one ≡ some a → get_elem? retired other ≡ some b
+    → a.slot ≡ b.slot → one ≡ other)
+    → (at : ℕ) (other : Retired) → get_elem? (not_passed passes (take place retired)) at ≡ some other
+    → other.slot ≢ entry.slot
+polled_before passes {retired = retired} {place = place} {entry = entry} here apart at other there same =
+    let first = take place retired in
+    let (earlier, at_first, _) = polled_at passes first at other there in
+    let at_it
+    = ap (λ (l : List Retired). get_elem? l earlier) (sym (take-append-drop place retired))
+    ∙ at_left first (drop place retired) earlier other at_first in
+    absurd
+    (omega (
+      arith,
+      apart earlier place other entry at_it here.is same,
+      inside first earlier other at_first,
+      length-take-le place retired (let low = inside retired place entry here.is in omega arith),
+    ))

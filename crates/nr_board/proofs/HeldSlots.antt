@@ -1,21 +1,30 @@
 -- Slots that are polled in vain, one more at a time.
 use Rattle.std.proofs.Common.{◌≡◌, ◌≢◌, ◌∙◌, ℕ, ◌+◌, ◌<◌, ◌≤◌, Bool, true, false, List, [], ◌∷◌, ◌++◌, ⊎_elim, ap}
-use Rattle.std.proofs.Common.{subst, append-nil, append_assoc, arith, length, length-append, refl, sym, take}
+use Rattle.std.proofs.Common.{subst, append-nil, append_assoc, arith, length, length-append, refl, sym}
 use Rattle.std.specs.Prelude.{Some}
 use lib.ListN.{get_elem?}
 use mathlib.Core.Option.{some, some-injective, some-ne-none}
 use Rattle.nr_core.proofs.Different.{few_of}
 use Rattle.nr_core.proofs.ListPlaces.{at_last, at_left, before as before_at, inside, some_is}
+use Rattle.nr_core.proofs.Sums.{only-is, only-same, some_term, term_le, total-append}
 use Rattle.nr_core.specs.declared.places.Retired.{Retired}
 use Rattle.nr_core.specs.declared.shape.Shape.{Shape}
 use Rattle.nr_core.specs.Marks.{Marks, OfSlot, Past, with_poll, with_polls, with_scan}
 use Rattle.nr_core.specs.MarkSteps.{NotedNowhereElse, ProbeTells}
-use Rattle.nr_board.proofs.HeldPolls.{held_next, polled_reached, up_to_passed, up_to_polled}
-use Rattle.nr_board.proofs.Keepers.{at_behind, at_end, once_more}
-use Rattle.nr_board.proofs.PollNotes.{StandsAt}
-use Rattle.nr_board.specs.HeldSlots.{HeldEach, HeldTo, PolledTo}
+use Rattle.nr_core.specs.PollNotes.{Missed}
+use Rattle.nr_core.specs.Roles.{retirements}
+use Rattle.nr_core.specs.Sums.{only, total}
+use Rattle.nr_board.proofs.HeldPolls.{held_many, held_next, polled_at, polled_there}
+use Rattle.nr_board.proofs.Keepers.{at_behind, at_end, held_noted, held_within, once_more, starts_itself}
+use Rattle.nr_board.proofs.PollNotes.{is_retired}
+use Rattle.nr_board.proofs.Tokens.{grows_both, grows_from, grows_none}
+use Rattle.nr_board.specs.Callers.{Grows, IsSound, token}
+use Rattle.nr_board.specs.HeldSlots.{FindsFree, HeldEach, HeldTo, InVain}
+use Rattle.nr_board.specs.Plays.{NotesTell}
+use Rattle.nr_board.specs.Polls.{HeldThen}
 use Rattle.nr_board.specs.SlotLists.{held_polls, not_passed}
 use Rattle.nr_board.specs.Views.{View}
+use Rattle.nr_board.specs.WriterSeats.{MapSeat}
 
 none_held : (readers : ℕ) → HeldEach readers [] []
 none_held readers = record {
@@ -52,102 +61,184 @@ module _ (readers : ℕ) (slots : List Retired) (notes : List Past) (entry : Ret
   }
 
 -- before the first place none is polled
-pub held_none : (passes : ℕ → Bool) (retired : List Retired) (view : View) → HeldTo passes retired view view 0
-held_none passes retired view = record {
+pub held_none : (view : View) → HeldTo [] view view
+held_none view = record {
   notes = [];
   each = none_held view.shape.readers;
   elsewhere = λ at note there. absurd (some-ne-none note (sym there));
   marks = λ j. with_scan view.marks (sym (append-nil view.marks.polls) j) (sym (append-nil view.marks.loads) j);
 }
 
--- no more of them are held than there are readers
-pub held_few : {passes : ℕ → Bool} {retired : List Retired} {old mid : View} {place : ℕ}
-    → HeldTo passes retired old mid place → length (not_passed passes (take place retired)) ≤ old.shape.readers
-held_few {old = old} so_far =
-    let each = so_far.each in
-    omega (
-      arith,
-      few_of (λ (note : Past). note.reader) so_far.notes old.shape.readers each.held.different each.range,
-      each.held.many,
-    )
+module _ {slots : List Retired} {old mid : View} (so_far : HeldTo slots old mid) where
+  abbrev notes : List Past
+  notes = so_far.notes
 
--- each note is of one of them
-pub held_at : {passes : ℕ → Bool} {retired : List Retired} {old mid : View} {place : ℕ}
-    → (so_far : HeldTo passes retired old mid place) (at : ℕ) (note : Past) → get_elem? so_far.notes at ≡ some note
-    → (slot : ℕ) × (note.slot ≡ Some slot) × PolledTo passes retired place slot
-held_at {passes = passes} {retired = retired} {place = place} so_far at note there =
-    let held = so_far.each.held in
-    let low : at < length (not_passed passes (take place retired))
-    = omega (arith, inside so_far.notes at note there, held.many) in
-    let entry = before_at (not_passed passes (take place retired)) at low in
-    let its = held.slots at entry.0 entry.1 in (
-      entry.0.slot,
-      ap (λ (p : Past). p.slot) (some-injective note its.0 (sym there ∙ its.1)) ∙ its.2,
-      polled_reached passes retired place at entry.0 entry.1,
-    )
+  -- no more of them are held than there are readers
+  pub held_few : length slots ≤ old.shape.readers
+  held_few =
+      let each = so_far.each in
+      omega (
+        arith,
+        few_of (λ (note : Past). note.reader) notes old.shape.readers each.held.different each.range,
+        each.held.many,
+      )
 
-module _ {passes : ℕ → Bool} {retired : List Retired} {old mid : View} {place : ℕ} {entry : Retired}
-    (so_far : HeldTo passes retired old mid place) (here : StandsAt retired place entry) where
-  abbrev held : List Retired
-  held = not_passed passes (take place retired)
+  -- each note is of one of them
+  pub held_at : (at : ℕ) (note : Past) → get_elem? notes at ≡ some note
+      → (entry : Retired) × (get_elem? slots at ≡ some entry) × (note.slot ≡ Some entry.slot)
+  held_at at note there =
+      let held = so_far.each.held in
+      let (entry, here) = before_at slots at (omega (arith, inside notes at note there, held.many)) in
+      let its = held.slots at entry here in (
+        entry,
+        here,
+        ap (λ (p : Past). p.slot) (some-injective note its.0 (sym there ∙ its.1)) ∙ its.2,
+      )
 
-  pub held_past : passes entry.slot ≡ true → HeldTo passes retired old mid (place + 1)
-  held_past gone = record {
-    notes = so_far.notes;
-    each = rw (up_to_passed passes here gone) so_far.each;
-    elsewhere = so_far.elsewhere;
-    marks = rw (up_to_passed passes here gone) so_far.marks;
-  }
-
-  -- the loads with a poll that finds the slot free
-  pub held_free : {now : Marks} → now ≡ with_poll mid.marks entry.slot true
-      → now
-      ≡ with_scan old.marks (old.marks.polls ++ so_far.notes)
-      (old.marks.loads ++ (held_polls held ++ OfSlot entry.slot true ∷ []))
-  held_free is =
-      is ∙ ap (λ (m : Marks). with_poll m entry.slot true) so_far.marks
-      ∙ ap (with_scan old.marks (old.marks.polls ++ so_far.notes))
-      (append_assoc old.marks.loads (held_polls held) (OfSlot entry.slot true ∷ []))
-
-  polls_are : mid.marks.polls ≡ old.marks.polls ++ so_far.notes
+  polls_are : mid.marks.polls ≡ old.marks.polls ++ notes
   polls_are = ap (λ (m : Marks). m.polls) so_far.marks
 
-  -- a poll that finds the slot held
-  module _ (stays : passes entry.slot ≡ false) (next : View) (shape : Shape) (sized : shape.readers ≡ old.shape.readers)
-      (apart : (one other : ℕ) (a b : Retired) → get_elem? retired one ≡ some a → get_elem? retired other ≡ some b
-      → a.slot ≡ b.slot → one ≡ other)
-      (told : ProbeTells false shape entry.slot mid.marks next.marks) where
-    abbrev note : Past
-    note = told.0
+  module _ (entry : Retired) where
+    loads_with : (free : Bool)
+        → (old.marks.loads ++ held_polls slots) ++ OfSlot entry.slot free ∷ []
+        ≡ old.marks.loads ++ (held_polls slots ++ OfSlot entry.slot free ∷ [])
+    loads_with free = append_assoc old.marks.loads (held_polls slots) (OfSlot entry.slot free ∷ [])
 
-    -- its reader was noted at none of the others
-    another : (at : ℕ) (other : Past) → get_elem? so_far.notes at ≡ some other → other.reader ≢ note.reader
-    another at other there same =
-        let (slot, on, (earlier, _)) = held_at so_far at other there in
-        let as_here : other.slot ≡ note.slot
-        = told.5 (length old.marks.polls + at) other
-        (ap (λ (l : List Past). get_elem? l (length old.marks.polls + at)) polls_are
-        ∙ at_behind old.marks.polls so_far.notes at ∙ there) same in
-        let one_slot = some_is slot entry.slot (sym on ∙ as_here ∙ told.2) in
-        let one_place = apart earlier.0 place earlier.1 entry earlier.3 here.is (earlier.4 ∙ one_slot) in
-        absurd (omega (arith, earlier.2))
+    -- the loads with a poll that finds the slot free
+    pub held_free : {now : Marks} → now ≡ with_poll mid.marks entry.slot true
+        → now
+        ≡ with_scan old.marks (old.marks.polls ++ notes)
+        (old.marks.loads ++ (held_polls slots ++ OfSlot entry.slot true ∷ []))
+    held_free is =
+        is ∙ ap (λ (m : Marks). with_poll m entry.slot true) so_far.marks
+        ∙ ap (with_scan old.marks (old.marks.polls ++ notes)) (loads_with true)
 
-    pub held_on : HeldTo passes retired old next (place + 1)
-    held_on = let more = up_to_polled passes here stays in record {
-      notes = so_far.notes ++ note ∷ [];
-      each =
-          rw more (one_more old.shape.readers held so_far.notes entry note so_far.each told.2 told.3
-          (let high = told.4 in omega arith) another);
-      elsewhere = λ at other there. ⊎_elim (so_far.elsewhere at other)
-          (λ (new : (at ≡ length so_far.notes) × (note ≡ other)). subst (NotedNowhereElse old.marks.polls) new.1
-          (λ n poll is. told.5 n poll
-          (ap (λ (l : List Past). get_elem? l n) polls_are ∙ at_left old.marks.polls so_far.notes n poll is)))
-          (at_last so_far.notes note other at there);
-      marks =
-          rw more
-          (told.1
-          ∙ ap (λ (m : Marks). with_polls (with_poll m entry.slot false) (m.polls ++ note ∷ [])) so_far.marks
-          ∙ (λ j. with_scan old.marks (append_assoc old.marks.polls so_far.notes (note ∷ []) j)
-          ((append_assoc old.marks.loads (held_polls held) (OfSlot entry.slot false ∷ [])
-          ∙ ap (λ l. old.marks.loads ++ l) (sym (held_next held entry))) j)));
-    }
+    -- a poll that finds the slot held, which is none of them
+    module _ (next : View) (shape : Shape) (sized : shape.readers ≡ old.shape.readers)
+        (fresh : (at : ℕ) (other : Retired) → get_elem? slots at ≡ some other → other.slot ≢ entry.slot)
+        (told : ProbeTells false shape entry.slot mid.marks next.marks) where
+      abbrev note : Past
+      note = told.0
+
+      -- its reader was noted at none of the others
+      another : (at : ℕ) (other : Past) → get_elem? notes at ≡ some other → other.reader ≢ note.reader
+      another at other there same =
+          let (polled, here, on) = held_at at other there in
+          let as_here
+          = told.5 (length old.marks.polls + at) other
+          (ap (λ (l : List Past). get_elem? l (length old.marks.polls + at)) polls_are
+          ∙ at_behind old.marks.polls notes at ∙ there) same in
+          fresh at polled here (some_is polled.slot entry.slot (sym on ∙ as_here ∙ told.2))
+
+      pub held_on : HeldTo (slots ++ entry ∷ []) old next
+      held_on = record {
+        notes = notes ++ note ∷ [];
+        each =
+            one_more old.shape.readers slots notes entry note so_far.each told.2 told.3
+            (let high = told.4 in omega arith) another;
+        elsewhere = λ at other there. ⊎_elim (so_far.elsewhere at other)
+            (λ (new : (at ≡ length notes) × (note ≡ other)). subst (NotedNowhereElse old.marks.polls) new.1
+            (λ n poll is. told.5 n poll
+            (ap (λ (l : List Past). get_elem? l n) polls_are ∙ at_left old.marks.polls notes n poll is)))
+            (at_last notes note other at there);
+        marks =
+            told.1
+            ∙ ap (λ (m : Marks). with_polls (with_poll m entry.slot false) (m.polls ++ note ∷ [])) so_far.marks
+            ∙ (λ j. with_scan old.marks (append_assoc old.marks.polls notes (note ∷ []) j)
+            ((loads_with false ∙ ap (λ l. old.marks.loads ++ l) (sym (held_next slots entry))) j));
+      }
+
+-- what a poll tells a search of a counted map where the slot is held, it tells a reap
+pub misses_probe : (shape : Shape) (known : List Past) (marks now : Marks) (slot : ℕ)
+    → now ≡ with_polls (with_poll marks slot false) now.polls → Missed shape known marks.polls slot now.polls
+    → ProbeTells false shape slot marks now
+misses_probe shape known marks now slot is missed =
+    let note = missed.note in
+    let count = λ (p : Past). only note.reader p.reader in
+    let once = subst (λ (l : List Past). total count l ≤ 1) missed.more (missed.different note.reader) in (
+      note,
+      is ∙ ap (with_polls (with_poll marks slot false)) missed.more,
+      missed.holds,
+      missed.range.0,
+      missed.range.1,
+      λ at poll there same. absurd
+          (omega (
+            arith,
+            once,
+            total-append count marks.polls (note ∷ []),
+            only-same note.reader,
+            term_le count marks.polls at poll there,
+            ap (only note.reader) same,
+            only-same note.reader,
+          )),
+    )
+
+-- POLLS OF A SEARCH
+
+pub vain_none : {seat : MapSeat} → IsSound (token seat) → InVain [] seat seat
+unfolding held_none
+vain_none {seat = seat} knows = record {
+  held = held_none seat.me.0;
+  holders = λ at slot note there. absurd (some-ne-none note (sym there));
+  grows = grows_none knows;
+  heard = refl;
+}
+
+module _ {slots : List Retired} {before mid next : MapSeat} (so_far : InVain slots before mid) (entry : Retired)
+    (grows : Grows 1 [] (token mid) (token next)) (heard : next.me.0.heard ≡ mid.me.0.heard) where
+  pub vain_on : (shape : Shape) → shape.readers ≡ before.me.0.shape.readers
+      → ((at : ℕ) (other : Retired) → get_elem? slots at ≡ some other → other.slot ≢ entry.slot)
+      → NotesTell next.me.0.seen mid.me.0.marks.polls next.me.0.marks.polls
+      → ProbeTells false shape entry.slot mid.me.0.marks next.me.0.marks
+      → InVain (slots ++ entry ∷ []) before next
+  unfolding held_on
+  vain_on shape sized fresh tells told =
+      let grown = grows_both (length-append slots (entry ∷ [])) so_far.grows grows in record {
+        held = held_on so_far.held entry next.me.0 shape sized fresh told;
+        holders = λ at slot note there on. ⊎_elim
+            (λ (was : get_elem? so_far.held.notes at ≡ some note). held_within starts_itself (grows_from grows)
+            (so_far.holders at slot note was on))
+            (λ (new : (at ≡ length so_far.held.notes) × (told.0 ≡ note)).
+            held_noted before.me.0.seen next.me.0.seen mid.me.0.marks.polls next.me.0.marks.polls slot note
+            (grows_from grown) tells
+            (ap (λ (m : Marks). m.polls) told.1 ∙ ap (λ (n : Past). mid.me.0.marks.polls ++ n ∷ []) new.1) on)
+            (at_last so_far.held.notes told.0 note at there);
+        grows = grown;
+        heard = heard ∙ so_far.heard;
+      }
+
+  pub vain_free : next.me.0.marks ≡ with_poll mid.me.0.marks entry.slot true
+      → FindsFree (held_polls slots ++ OfSlot entry.slot true ∷ []) before next
+  vain_free is =
+      let loads = held_polls slots ++ OfSlot entry.slot true ∷ [] in
+      let marks_are = held_free so_far.held entry is in
+      let many : length loads ≡ length slots + 1
+      = omega (arith, length-append (held_polls slots) (OfSlot entry.slot true ∷ []), held_many slots) in
+      record {
+        few = omega (arith, many, held_few so_far.held);
+        grows = grows_both many so_far.grows grows;
+        marks =
+            marks_are
+            ∙ ap (λ (l : List Past). with_scan before.me.0.marks l (before.me.0.marks.loads ++ loads))
+            (ap (λ (m : Marks). m.polls) (sym marks_are));
+        heard = heard ∙ so_far.heard;
+      }
+
+-- where all that aren't passed by were polled, each note is of one of them, and each of them has one
+module _ (passes : ℕ → Bool) (retired : List Retired) {before now : MapSeat}
+    (vain : InVain (not_passed passes retired) before now) where
+  pub note_kept : (at : ℕ) (note : Past) → get_elem? vain.held.notes at ≡ some note
+      → (slot : ℕ) × (0 < retirements slot retired) × HeldThen before.me.0.seen now.me.0.seen slot note
+  note_kept at note there = let (entry, here, on) = held_at vain.held at note there in
+      let polled = polled_at passes retired at entry here in
+      (entry.slot, is_retired retired polled.0 entry polled.1, vain.holders at entry.slot note there on)
+
+  pub slot_kept : (slot : ℕ) → 0 < retirements slot retired → passes slot ≡ false
+      → (at : ℕ) × (note : Past) × (get_elem? vain.held.notes at ≡ some note)
+      × HeldThen before.me.0.seen now.me.0.seen slot note
+  slot_kept slot waits stays =
+      let (at, entry, there, term) = some_term (λ (x : Retired). only slot x.slot) retired waits in
+      let is = only-is slot entry.slot term in
+      let polled = polled_there passes (record { is = there }) (ap passes is ∙ stays) in
+      let note = vain.held.each.held.slots polled.0 entry polled.1 in
+      (polled.0, note.0, note.1, vain.holders polled.0 slot note.0 note.1 (note.2 ∙ ap Some is))

@@ -1,21 +1,19 @@
--- Notes of a search, one more at a time: each slot that was kept back keeps its note, and each note its slot.
+-- Notes of a search: what the noted reader held stays so.
 use Rattle.std.proofs.Common.{◌≡◌, ◌≢◌, ℕ, ◌+◌, ◌<◌, ◌≤◌, ◌⊎◌, ⊎_elim, inl, inr, List, [], ◌∷◌, ◌++◌, length, refl, sym}
 use Rattle.std.proofs.Common.{ap, ◌∙◌, suc, zero, subst, append_assoc, append-nil, arith}
 use Rattle.std.specs.Prelude.{Some}
-use mathlib.Core.Option.{some, some-ne-none}
+use mathlib.Core.Option.{some}
 use mathlib.Core.Logic.{dite}
 use native.Mathlib.Decide.{ℕ_discrete}
 use lib.ListN.{get_elem?}
 use Rattle.nr_model.specs.Histories.{Entry, entries_of}
-use Rattle.nr_core.proofs.ListPlaces.{at_last, at_left, inside}
+use Rattle.nr_core.proofs.ListPlaces.{inside}
 use Rattle.nr_core.proofs.Sums.{only-is, only-le, only-other, some_term, total-append}
 use Rattle.nr_core.specs.Sums.{only, total}
 use Rattle.nr_core.specs.Marks.{LoggedLoad, Past}
-use Rattle.nr_core.specs.Roles.{retirements}
 use Rattle.nr_core.specs.declared.places.Retired.{Retired}
 use Rattle.nr_board.specs.Entries.{acts_told, to_depart}
 use Rattle.nr_board.specs.Plays.{NotesTell}
-use Rattle.nr_board.specs.Noting.{Adds}
 use Rattle.nr_board.specs.Polls.{HeldThen, KeptBack, KeptThen, SaidThen}
 use Rattle.nr_board.specs.Rule.{StartsWith}
 
@@ -57,70 +55,6 @@ starts_itself {log = log} = record { rest = []; is = sym (append-nil log) }
 
 -- NOTES
 
-pub adds_none : (is : ℕ → Type 0) (kept : ℕ → Past → Type 0) (notes : List Past) → ((slot : ℕ) → is slot → ⊥)
-    → Adds is kept notes notes
-adds_none is kept notes none = record {
-  stay = λ at note there. there;
-  slots = λ slot of. absurd (none slot of);
-  keepers = λ at note there. inl there;
-}
-
--- the same notes, of the same slots
-pub adds_on : (is now : ℕ → Type 0) (kept told : ℕ → Past → Type 0) (before notes : List Past)
-    → ((slot : ℕ) → now slot → is slot) → ((slot : ℕ) → is slot → now slot)
-    → ((slot : ℕ) (note : Past) → kept slot note → told slot note)
-    → Adds is kept before notes → Adds now told before notes
-adds_on is now kept told before notes back on tells adds = record {
-  stay = adds.stay;
-  slots = λ slot of. let t = adds.slots slot (back slot of) in (t.0, t.1, t.2, tells slot t.1 t.3);
-  keepers = λ at note there. ⊎_elim inl
-      (λ (t : (slot : ℕ) × is slot × kept slot note). inr (t.0, on t.0 t.1, tells t.0 note t.2))
-      (adds.keepers at note there);
-}
-
--- one note more, of a slot
-pub adds_more : (is now : ℕ → Type 0) (kept : ℕ → Past → Type 0) (before notes : List Past) (mine : ℕ) (note : Past)
-    → ((slot : ℕ) → now slot → is slot ⊎ (slot ≡ mine)) → ((slot : ℕ) → is slot → now slot) → now mine
-    → kept mine note → Adds is kept before notes
-    → Adds now kept before (notes ++ note ∷ [])
-adds_more is now kept before notes mine note back on here told adds = record {
-  stay = λ at old there. at_left notes (note ∷ []) at old (adds.stay at old there);
-  slots = λ slot of. ⊎_elim
-      (λ (old : is slot). let t = adds.slots slot old in (t.0, t.1, at_left notes (note ∷ []) t.0 t.1 t.2, t.3))
-      (λ (e : slot ≡ mine). (
-        length notes,
-        note,
-        at_end notes note (length notes) refl,
-        subst (λ (s : ℕ). kept s note) (sym e) told,
-      ))
-      (back slot of);
-  keepers = λ at other there. ⊎_elim
-      (λ (old : get_elem? notes at ≡ some other). ⊎_elim inl
-      (λ (t : (slot : ℕ) × is slot × kept slot other). inr (t.0, on t.0 t.1, t.2)) (adds.keepers at other old))
-      (λ (new : (at ≡ length notes) × (note ≡ other)). inr (mine, here, subst (kept mine) new.1 told))
-      (at_last notes note other at there);
-}
-
--- notes of some slots, and behind them of others
-pub adds_both : (is also now : ℕ → Type 0) (kept held told : ℕ → Past → Type 0) (before mid notes : List Past)
-    → ((slot : ℕ) → now slot → is slot ⊎ also slot) → ((slot : ℕ) → is slot → now slot)
-    → ((slot : ℕ) → also slot → now slot) → ((slot : ℕ) (note : Past) → kept slot note → told slot note)
-    → ((slot : ℕ) (note : Past) → held slot note → told slot note)
-    → Adds is kept before mid → Adds also held mid notes → Adds now told before notes
-adds_both is also now kept held told before mid notes back on too says tells first second = record {
-  stay = λ at note there. second.stay at note (first.stay at note there);
-  slots = λ slot of. ⊎_elim
-      (λ (old : is slot).
-      let t = first.slots slot old in (t.0, t.1, second.stay t.0 t.1 t.2, says slot t.1 t.3))
-      (λ (new : also slot). let t = second.slots slot new in (t.0, t.1, t.2, tells slot t.1 t.3)) (back slot of);
-  keepers = λ at note there. ⊎_elim
-      (λ (old : get_elem? mid at ≡ some note). ⊎_elim inl
-      (λ (t : (slot : ℕ) × is slot × kept slot note). inr (t.0, on t.0 t.1, says t.0 note t.2))
-      (first.keepers at note old))
-      (λ (t : (slot : ℕ) × also slot × held slot note). inr (t.0, too t.0 t.1, tells t.0 note t.2))
-      (second.keepers at note there);
-}
-
 -- one note more, of a reader that none of them noted
 pub once_more : (notes : List Past) (note : Past)
     → ((reader : ℕ) → total (λ (n : Past). only reader n.reader) notes ≤ 1)
@@ -155,34 +89,6 @@ held_noted before after polls now slot note begun tells more holds =
     })
     (tells (length polls) note
     (ap (λ (l : List Past). get_elem? l (length polls)) more ∙ at_end polls note (length polls) refl))
-
--- one poll more, which noted a reader that held its slot
-pub adds_held : (is now : ℕ → Type 0) (first polls notes : List Past) (start mid after : List Entry) (mine : ℕ)
-    (note : Past)
-    → ((slot : ℕ) → now slot → is slot ⊎ (slot ≡ mine)) → ((slot : ℕ) → is slot → now slot) → now mine
-    → StartsWith after start → StartsWith after mid → NotesTell after polls notes → notes ≡ polls ++ note ∷ []
-    → note.slot ≡ Some mine → Adds is (HeldThen start mid) first polls → Adds now (HeldThen start after) first notes
-adds_held is now first polls notes start mid after mine note back on here begun more tells noted holds adds =
-    subst (Adds now (HeldThen start after) first) (sym noted)
-    (adds_more is now (HeldThen start after) first polls mine note back on here
-    (held_noted start after polls notes mine note begun tells noted holds)
-    (adds_on is is (HeldThen start mid) (HeldThen start after) first polls (λ _ of. of) (λ _ of. of)
-    (λ _ _ was. held_within starts_itself more was) adds))
-
--- the notes of a search that was in vain
-pub kept_back : (readers : ℕ) (before after : List Entry) (loads : List LoggedLoad) (retired : List Retired)
-    (notes : List Past) (is : ℕ → Type 0) (kept : ℕ → Past → Type 0)
-    → ((slot : ℕ) → 0 < retirements slot retired → is slot) → ((slot : ℕ) → is slot → 0 < retirements slot retired)
-    → ((slot : ℕ) (note : Past) → kept slot note → KeptThen before after loads slot note)
-    → ((at : ℕ) (note : Past) → get_elem? notes at ≡ some note → (0 < note.reader) × (note.reader ≤ readers))
-    → Adds is kept [] notes → KeptBack readers before after loads retired notes
-kept_back readers before after loads retired notes is kept all waits tells range adds = record {
-  slots = λ slot there. let t = adds.slots slot (all slot there) in (t.0, t.1, t.2, tells slot t.1 t.3);
-  keepers = λ at note there. ⊎_elim (λ (none : get_elem? [] at ≡ some note). absurd (some-ne-none note (sym none)))
-      (λ (t : (slot : ℕ) × is slot × kept slot note). (t.0, waits t.0 t.1, tells t.0 note t.2))
-      (adds.keepers at note there);
-  range = range;
-}
 
 -- it began with the call
 pub kept_since : {readers : ℕ} {before mid after : List Entry} {loads : List LoggedLoad} {retired : List Retired}

@@ -14,11 +14,10 @@ use Rattle.nr_core.specs.declared.calls.Step.TheVariants.{Going}
 use Rattle.nr_core.specs.declared.calls.WriterCall.{WriterCall}
 use Rattle.nr_core.specs.declared.places.Place.TheVariants.{Idle, Putting}
 use Rattle.nr_core.specs.declared.roles.Desk.{Desk}
-use Rattle.nr_board.proofs.Tokens.{grows_both}
+use Rattle.nr_board.proofs.Tokens.{grows_both, grows_none}
 use Rattle.nr_core.specs.declared.roles.Role.TheVariants.{Writer}
 use Rattle.nr_board.specs.Callers.{Caller, Grows, Table, map_at_opening, token, IsSound}
 use Rattle.nr_board.proofs.Flagging.{fewer_retired, flags_put}
-use Rattle.nr_board.proofs.Searching.{grows_none}
 use Rattle.nr_board.specs.Entries.{AreCallers}
 use Rattle.nr_board.specs.Flags.{IsFlagged}
 use Rattle.nr_board.specs.Views.{desk_of}

@@ -17,28 +17,25 @@ use Rattle.nr_core.specs.declared.places.Retired.{Retired}
 use Rattle.nr_core.proofs.ListPlaces.{at_left, some_is}
 use Rattle.nr_core.specs.Marks.{Marks, OfWord, Past, LoggedLoad, with_scan}
 use Rattle.nr_core.specs.Roles.{retirements}
-use Rattle.nr_board.proofs.Keepers.{adds_both, at_behind, held_within, kept_back}
-use Rattle.nr_board.proofs.HeldSlots.{held_at, held_few}
-use Rattle.nr_board.proofs.PollNotes.{reached_all, reached_waits, there_is}
-use Rattle.nr_board.proofs.Searching.{grows_from}
-use Rattle.nr_board.proofs.Tokens.{grows_both, grows_rests}
+use Rattle.nr_board.proofs.Keepers.{at_behind, held_within}
+use Rattle.nr_board.proofs.HeldSlots.{held_at, held_few, note_kept, slot_kept}
+use Rattle.nr_board.proofs.Passes.{takes_by}
+use Rattle.nr_board.proofs.Tokens.{grows_both, grows_from, grows_rests}
 use Rattle.nr_board.specs.Callers.{Grows, Rests, Table, map_seen, token}
 use Rattle.nr_board.specs.Flags.{Flagged}
-use Rattle.nr_board.specs.HeldSlots.{PolledTo}
+use Rattle.nr_board.specs.HeldSlots.{InVain}
 use Rattle.nr_board.specs.Passes.{PassTakes, PassedTo, is_unheard}
-use Rattle.nr_board.specs.Noting.{Adds}
-use Rattle.nr_board.specs.Polls.{HeldThen, KeptThen, SaidThen}
-use Rattle.nr_board.specs.SlotLists.{SearchedTo, desk_with, heard_all, held_polls, not_passed, polls_to}
+use Rattle.nr_board.specs.Polls.{KeptThen, SaidThen}
+use Rattle.nr_board.specs.SlotLists.{desk_with, heard_all, held_polls, not_passed, polls_to}
 use Rattle.nr_board.proofs.Flagging.{flag_is, flags_are}
-use Rattle.nr_board.proofs.HeldPolls.{held_many}
+use Rattle.nr_board.proofs.HeldPolls.{held_many, polled_at}
 use Rattle.nr_board.proofs.WriterSeats.{leads_seat}
 use Rattle.nr_board.specs.declared.publish.Taken.{Taken}
 use Rattle.nr_board.proofs.WholeScans.{retired_once}
 use Rattle.nr_board.proofs.WordSearches.{begun}
 use Rattle.nr_core.specs.Story.{call_of, map_after}
-use Rattle.nr_core.specs.States.{retired_at}
 use Rattle.nr_core.specs.declared.calls.WriterCall.{WriterCall}
-use Rattle.nr_core.specs.declared.places.Place.TheVariants.{Idle, Putting, Searching}
+use Rattle.nr_core.specs.declared.places.Place.TheVariants.{Idle, Searching}
 use Rattle.nr_core.specs.declared.roles.Role.{Role}
 use Rattle.nr_core.specs.declared.roles.Role.TheVariants.{Writer}
 use Rattle.nr_model.specs.declared.calls.Reply.TheVariants as reply
@@ -51,30 +48,31 @@ use Rattle.nr_board.specs.SearchSeats.{Ends}
 use Rattle.nr_board.proofs.WordLoads.{words_many, words_told}
 use Rattle.nr_board.specs.WordLoads.{WordsTell}
 use Rattle.nr_board.specs.Views.{View, desk_of}
-use Rattle.nr_board.specs.WholeScans.{FlaggedIn, KeepBack, SaidBehind, ScannedTo, is_flagged, misses}
-use Rattle.nr_board.specs.WriterSeats.{LacksSlot, MapSeat, Settles, TakesSlot, WritesAt}
+use Rattle.nr_board.specs.WholeScans.{KeepBack, SaidBehind, ScannedTo, is_flagged, misses}
+use Rattle.nr_board.specs.WriterSeats.{LacksSlot, MapSeat, Settles, TakesSlot}
 
 module _ (table : Table) (lists : SlotLists) (flags : List Bool) (before now : MapSeat)
     (same : now.table_id ≡ before.table_id) (sized : (token before).table ≡ table) (some_words : 0 < table.announcers)
     (scanned : ScannedTo lists.retired before.me.0 now.me.0 flags table.announcers) where
   -- the scan adds nothing
   pub scan_rests : Rests table.announcers (token before) (token now)
-  scan_rests = record {
-    table = λ j. record { id = same j; shape = (scanned.rest j).shape; announcers = (scanned.rest j).announcers };
-    number = ap (λ (v : View). (token (record now { me = (v, now.me.1) })).number) scanned.rest;
-    seen = ap (λ (v : View). v.seen) scanned.rest;
-    mine = ap (λ (v : View). v.mine) scanned.rest;
-    steps_made = ap (λ (v : View). v.steps) scanned.rest;
-    pasts = ap (λ (v : View). v.pasts) scanned.rest;
-    loaded_ahead = ap (λ (v : View). v.loaded_ahead) scanned.rest;
+  scan_rests = let rest = scanned.loaded.rest in record {
+    table = λ j. record { id = same j; shape = (rest j).shape; announcers = (rest j).announcers };
+    number = ap (λ (v : View). (token (record now { me = (v, now.me.1) })).number) rest;
+    seen = ap (λ (v : View). v.seen) rest;
+    mine = ap (λ (v : View). v.mine) rest;
+    steps_made = ap (λ (v : View). v.steps) rest;
+    pasts = ap (λ (v : View). v.pasts) rest;
+    loaded_ahead = ap (λ (v : View). v.loaded_ahead) rest;
   }
 
   base_is : scan_base table.announcers now.me.0.marks.polls ≡ now.me.0.marks.polls
   base_is =
       ap (λ (b : Bool). cond {A = List Past} b [] now.me.0.marks.polls) (ne_eqb table.announcers 0 (λ e. omega arith))
 
-  keep : KeepBack lists.retired flags table.announcers now.me.0.marks.polls
-  keep = subst (KeepBack lists.retired flags table.announcers) base_is scanned.keep
+  keep : KeepBack lists.retired flags table.announcers before.me.0.marks.loads now.me.0.marks.loads
+      now.me.0.marks.polls
+  keep = rw base_is at scanned.keep
 
 -- each slot has a flag or not
 flagged_or_not : (flags : List Bool) (retired : List Retired)
@@ -122,54 +120,20 @@ module _ {table : Table} {call : WriterCall} {rows : List Row} {lists : SlotList
   begins : before.me.0.role ≡ Writer desk
   begins = (begun table call rows lists before settles full some_words waits).role
 
-  -- a pass takes a slot, by that many loads of the search
-  takes_by : {seat now : MapSeat} {after : SlotLists} {taken : Taken}
-      → (takes : PassTakes table seat lists now after taken) (loads : List LoggedLoad)
-      → SearchedTo table before.me.0.heard now.me.0.heard loads lists.retired takes.place taken.slot
-      → seat.me.0.role ≡ before.me.0.role → Grows (length loads) [] (token before) (token now)
-      → length loads ≤ table.shape.readers + table.announcers + (table.shape.readers + 1)
-      → now.me.0.marks
-      ≡ with_scan before.me.0.marks now.me.0.marks.polls (before.me.0.marks.loads ++ loads)
-      → TakesSlot table call rows before lists now after taken.slot taken.departures
-  takes_by {now = now} {taken = taken} takes loads searched role grows few marks =
-      let is = takes.after_is in
-      let slot_is : (retired_at desk takes.place).slot ≡ taken.slot
-      = ap (λ (e : Retired). e.slot) (sym (there_is lists.retired takes.place takes.entry takes.here))
-      ∙ sym takes.slot in
-      record {
-        steps = length loads;
-        loads = loads;
-        took =
-            inr (
-              full,
-              takes.place,
-              takes.entry,
-              takes.here,
-              sym takes.slot,
-              searched,
-              ap (λ (s : SlotLists). s.fresh) is,
-              ap (λ (s : SlotLists). s.retired) is,
-              refl,
-            );
-        few = (few, λ none. absurd (omega arith));
-        slots = ap (λ (s : SlotLists). s.slots) is;
-        numbers = ap (λ (s : SlotLists). s.numbers) is;
-        reaped = ap (λ (s : SlotLists). s.reaped) is;
-        writes =
-            subst (λ (p : ℕ × SlotLists). WritesAt table (desk_with p.1 (Putting call rows p.0 taken.departures 0)) now)
-            (λ j. (slot_is j, sym is j)) (takes.writes desk call rows (role ∙ begins) refl);
-        grows = grows;
-        marks = marks;
-      }
+  readers_are : before.me.0.shape.readers ≡ table.shape.readers
+  readers_are =
+      ap (λ (t : Table). t.shape.readers) (begun table call rows lists before settles full some_words waits).own
 
   -- it was heard before
   pub takes_first : {now : MapSeat} {after : SlotLists} {taken : Taken}
       → PassTakes table before lists now after taken
       → TakesSlot table call rows before lists now after taken.slot taken.departures
   takes_first {taken = taken} takes =
-      takes_by takes (polls_to table.announcers before.me.0.heard lists.retired takes.place taken.slot)
-      (rw takes.heard takes.all_heard, inl (takes.heard, refl)) refl takes.grows (let few = takes.few in omega arith)
-      takes.marks
+      let free = takes.free in
+      takes_by takes.place (polls_to table.announcers before.me.0.heard lists.retired takes.place taken.slot) full takes.here
+      takes.slot takes.after_is (rw free.heard takes.all_heard, inl (free.heard, refl))
+      (omega (arith, free.few, readers_are), λ none. absurd (omega arith)) (takes.writes desk call rows begins refl)
+      free.grows free.marks
 
   module _ (scanned : List Bool) (mid swept : MapSeat) (first : PassedTo table lists before mid (length lists.retired))
       (same : swept.table_id ≡ mid.table_id) (few : table.announcers ≤ table.shape.readers)
@@ -182,26 +146,18 @@ module _ {table : Table} {call : WriterCall} {rows : List Row} {lists : SlotList
     abbrev heard_by : MapSeat → List Retired
     heard_by seat = heard_all table.announcers seat.me.0.heard lists.retired
 
-    whole : take (length lists.retired) lists.retired ≡ lists.retired
-    whole = take_all (length lists.retired) lists.retired (omega arith)
-
-    abbrev Passed : MapSeat → MapSeat → List Retired → Type 0
-    Passed seat now polled =
-        Grows (length polled) [] (token seat) (token now)
-        × (now.me.0.marks
-        ≡ with_scan seat.me.0.marks now.me.0.marks.polls (seat.me.0.marks.loads ++ held_polls polled))
+    abbrev unheard : ℕ → Bool
+    unheard = is_unheard table.announcers swept.me.0.heard
 
     -- a pass that takes none polls them all
-    passed_all : {seat now : MapSeat} → PassedTo table lists seat now (length lists.retired)
-        → Passed seat now (heard_by seat)
-    passed_all {seat = seat} {now = now} pass =
-        let polled = heard_all table.announcers seat.me.0.heard (take (length lists.retired) lists.retired) in
-        subst (λ (l : List Retired). Passed seat now (heard_all table.announcers seat.me.0.heard l)) whole (
-          pass.grows,
-          pass.held.marks
-              ∙ ap (λ (l : List Past). with_scan seat.me.0.marks l (seat.me.0.marks.loads ++ held_polls polled))
-              (sym (ap (λ (m : Marks). m.polls) pass.held.marks)),
-        )
+    all_polled : {seat now : MapSeat} → PassedTo table lists seat now (length lists.retired)
+        → InVain (heard_by seat) seat now
+    all_polled {seat = seat} {now = now} pass =
+        subst (λ (l : List Retired). InVain (heard_all table.announcers seat.me.0.heard l) seat now)
+        (take_all (length lists.retired) lists.retired (omega arith)) pass.polls
+
+    first_pass : InVain (heard_by before) before mid
+    first_pass = all_polled first
 
     abbrev polls : ℕ
     polls = length (heard_by before)
@@ -210,13 +166,7 @@ module _ {table : Table} {call : WriterCall} {rows : List Row} {lists : SlotList
     first_polls = held_polls (heard_by before)
 
     polls_few : polls ≤ table.shape.readers
-    polls_few =
-        omega (
-          arith,
-          held_few first.held,
-          ap (λ (l : List Retired). length (heard_all table.announcers before.me.0.heard l)) whole,
-          ap (λ (t : Table). t.shape.readers) (sym first.grows.table ∙ sized),
-        )
+    polls_few = omega (arith, held_few first_pass.held, readers_are)
 
     scanning : Rests table.announcers (token mid) (token swept)
     scanning = scan_rests table lists scanned mid swept same sized some_words scan
@@ -224,10 +174,10 @@ module _ {table : Table} {call : WriterCall} {rows : List Row} {lists : SlotList
     up_to : Grows (polls + table.announcers) [] (token before) (token swept)
     up_to =
         grows_rests polls table.announcers (polls + table.announcers) (token before) [] (token mid) (token swept) refl
-        (passed_all first).0 scanning
+        first_pass.grows scanning
 
     role_is : swept.me.0.role ≡ before.me.0.role
-    role_is = ap (λ (v : View). v.role) scan.rest ∙ first.role
+    role_is = ap (λ (v : View). v.role) scan.loaded.rest ∙ first.role
 
     -- what the scan heard is what the words tell
     words_are : (scan : List LoggedLoad)
@@ -235,7 +185,7 @@ module _ {table : Table} {call : WriterCall} {rows : List Row} {lists : SlotList
         × (swept.me.0.marks.loads ≡ mid.me.0.marks.loads ++ scan)
     words_are =
         words_told table.announcers lists.retired mid.me.0.shape.slots mid.me.0.marks.loads swept.me.0.marks.loads
-        swept.me.0.heard some_words scan.words
+        swept.me.0.heard some_words scan.loaded.words
 
     abbrev scan_loads : List LoggedLoad
     scan_loads = words_are.0
@@ -262,9 +212,10 @@ module _ {table : Table} {call : WriterCall} {rows : List Row} {lists : SlotList
     marks_on : (marks : Marks) (more : List LoggedLoad)
         → marks ≡ with_scan swept.me.0.marks marks.polls (swept.me.0.marks.loads ++ more)
         → marks ≡ with_scan before.me.0.marks marks.polls (before.me.0.marks.loads ++ all_loads more)
-    marks_on marks more is = is ∙ ap (λ (v : View). with_scan v.marks marks.polls (v.marks.loads ++ more)) scan.rest
+    marks_on marks more is =
+        is ∙ ap (λ (v : View). with_scan v.marks marks.polls (v.marks.loads ++ more)) scan.loaded.rest
         ∙ (λ j. with_scan mid.me.0.marks marks.polls (words_are.2 j ++ more))
-        ∙ ap (λ (m : Marks). with_scan m marks.polls ((m.loads ++ scan_loads) ++ more)) (passed_all first).1
+        ∙ ap (λ (m : Marks). with_scan m marks.polls ((m.loads ++ scan_loads) ++ more)) first_pass.held.marks
         ∙ ap (with_scan before.me.0.marks marks.polls)
         (append_assoc (before.me.0.marks.loads ++ first_polls) scan_loads more
         ∙ append_assoc before.me.0.marks.loads first_polls (scan_loads ++ more))
@@ -273,44 +224,54 @@ module _ {table : Table} {call : WriterCall} {rows : List Row} {lists : SlotList
         → TakesSlot table call rows before lists now after taken.slot taken.departures
     takes_second {taken = taken} takes =
         let more = polls_to table.announcers swept.me.0.heard lists.retired takes.place taken.slot in
-        let searched : SearchedTo table before.me.0.heard swept.me.0.heard (all_loads more) lists.retired takes.place
-        taken.slot
-        = (takes.all_heard, inr (some_words, scan_loads, tells, refl)) in
-        takes_by takes (all_loads more) (rw takes.heard searched) role_is
-        (grows_both (all_many more) up_to takes.grows)
-        (let one = polls_few in let other = takes.few in omega (arith, all_many more)) (marks_on _ more takes.marks)
+        let free = takes.free in
+        let sizes : swept.me.0.shape.readers ≡ table.shape.readers
+        = ap (λ (t : Table). t.shape.readers) (scanning.table ∙ sized) in
+        takes_by takes.place (all_loads more) full takes.here takes.slot takes.after_is
+        (rw free.heard (takes.all_heard, inr (some_words, scan_loads, tells, refl)))
+        (omega (arith, polls_few, free.few, sizes, all_many more), λ none. absurd (omega arith))
+        (takes.writes desk call rows (role_is ∙ begins) refl) (grows_both (all_many more) up_to free.grows)
+        (marks_on _ more free.marks)
 
     module _ {last : MapSeat} (second : PassedTo table lists swept last (length lists.retired)) where
-      abbrev notes : List Past
-      notes = second.held.notes
+      second_pass : InVain (heard_by swept) swept last
+      second_pass = all_polled second
 
-      abbrev now_keep : KeepBack lists.retired scanned table.announcers swept.me.0.marks.polls
+      abbrev notes : List Past
+      notes = second_pass.held.notes
+
+      abbrev now_keep : KeepBack lists.retired scanned table.announcers mid.me.0.marks.loads swept.me.0.marks.loads
+          swept.me.0.marks.polls
       now_keep = keep table lists scanned mid swept same sized some_words scan
 
       -- the scan noted none of the readers that the second pass did
       differ : (at place : ℕ) (old note : Past) → get_elem? swept.me.0.marks.polls at ≡ some old
           → get_elem? notes place ≡ some note → old.reader ≢ note.reader
       differ at place old note there its one_reader =
-          let (slot, on, (_, free)) = held_at second.held place note its in
-          let slot_is : old.slot ≡ Some slot = second.held.elsewhere place note its at old there one_reader ∙ on in
+          let (entry, among, on) = held_at second_pass.held place note its in
+          let slot_is = second_pass.held.elsewhere place note its at old there one_reader ∙ on in
+          let (_, _, free)
+          = polled_at unheard lists.retired place entry among in
+          let (slot, (_, flag), keeps) = now_keep.each at old there in
           ⊎_elim (λ (none : old.slot ≡ None). absurd (cc))
-          (λ (h : (flag : ℕ) × (old.slot ≡ Some flag) × (is_flagged scanned flag ≡ true)). false≢true
+          (λ (mine : old.slot ≡ Some slot). false≢true
           (sym free
-          ∙ ap (is_unheard table.announcers swept.me.0.heard) (some_is slot h.0 (sym slot_is ∙ h.1))
-          ∙ sym (flag_is table lists.retired swept.me.0.heard scanned flagged h.0)
-          ∙ h.2))
-          (now_keep.each at old there).holds
+          ∙ ap unheard (some_is entry.slot slot (sym slot_is ∙ mine))
+          ∙ sym (flag_is table lists.retired swept.me.0.heard scanned flagged slot)
+          ∙ flag))
+          keeps.holds
 
       all_apart : (reader : ℕ) → total (λ (n : Past). only reader n.reader) (swept.me.0.marks.polls ++ notes) ≤ 1
       all_apart =
-          both_apart swept.me.0.marks.polls notes now_keep.apart second.held.each.held.different differ
+          both_apart swept.me.0.marks.polls notes now_keep.apart second_pass.held.each.held.different differ
 
       in_range : (at : ℕ) (note : Past) → get_elem? (swept.me.0.marks.polls ++ notes) at ≡ some note
           → (0 < note.reader) × (note.reader ≤ table.shape.readers)
       in_range =
           each_both (λ note. (0 < note.reader) × (note.reader ≤ table.shape.readers)) swept.me.0.marks.polls notes
-          (λ at note there. let one = now_keep.each at note there in (one.made, (let low = one.few in omega arith)))
-          (λ at note there. let (made, low) = second.held.each.range at note there in
+          (λ at note there. let keeps = (now_keep.each at note there).2 in
+          (keeps.made, (let low = keeps.few in omega arith)))
+          (λ at note there. let (made, low) = second_pass.held.each.range at note there in
           (made, omega (arith, low, ap (λ (t : Table). t.shape.readers) (scanning.table ∙ sized))))
 
       all_noted : length (swept.me.0.marks.polls ++ notes) ≡ length lists.retired
@@ -321,8 +282,7 @@ module _ {table : Table} {call : WriterCall} {rows : List Row} {lists : SlotList
             now_keep.many,
             flagged_or_not scanned lists.retired,
             ap length (flags_are table lists.retired swept.me.0.heard scanned flagged lists.retired),
-            second.held.each.held.many,
-            ap (λ (l : List Retired). length (heard_all table.announcers swept.me.0.heard l)) whole,
+            second_pass.held.each.held.many,
           )
 
       -- every retired slot is kept back
@@ -340,12 +300,11 @@ module _ {table : Table} {call : WriterCall} {rows : List Row} {lists : SlotList
           = subst (λ (s : Shape). filled_count (map_after s now.me.0.seen) + length lists.retired ≡ s.slots) shapes
           gave.slots in
           let polls_last : last.me.0.marks.polls ≡ swept.me.0.marks.polls ++ notes
-          = ap (λ (m : Marks). m.polls) second.held.marks in
+          = ap (λ (m : Marks). m.polls) second_pass.held.marks in
           let polls_now : now.me.0.marks.polls ≡ swept.me.0.marks.polls ++ notes
           = ap (λ (m : Marks). m.polls) gave.marks ∙ polls_last in
-          let heard_now = gave.heard ∙ second.heard in
+          let heard_now = gave.heard ∙ second_pass.heard in
           let more : List LoggedLoad = held_polls (heard_by swept) in
-          let kept_then = KeptThen before.me.0.seen now.me.0.seen (all_loads more) in
           -- what a word said is among the loads
           let said_among : (slot : ℕ) (note : Past)
           → SaidBehind mid.me.0.marks.loads swept.me.0.marks.loads slot note → SaidThen (all_loads more) slot note
@@ -374,7 +333,7 @@ module _ {table : Table} {call : WriterCall} {rows : List Row} {lists : SlotList
             grows =
                 grows_both {sum = length (all_loads more) + 1}
                 (omega (arith, all_many more, held_many (heard_by swept)))
-                (grows_both refl up_to (passed_all second).0) one;
+                (grows_both refl up_to second_pass.grows) one;
             lacks = record {
               would_be_done =
                   subst (λ (s : Shape). reply_to (map_after s now.me.0.seen) (call_of call) ≡ reply.Done) shapes
@@ -400,38 +359,40 @@ module _ {table : Table} {call : WriterCall} {rows : List Row} {lists : SlotList
               polled = λ none. absurd (let same = ap (λ (t : Table). t.announcers) writes.own in omega arith);
             };
             noted = λ none. absurd (omega arith);
-            kept =
-                kept_back table.shape.readers before.me.0.seen now.me.0.seen (all_loads more) lists.retired
-                now.me.0.marks.polls (λ slot. 0 < retirements slot lists.retired) kept_then (λ _ waits. waits)
-                (λ _ waits. waits) (λ _ _ kept. kept) (rw polls_now in_range)
-                (subst (Adds (λ slot. 0 < retirements slot lists.retired) kept_then []) (polls_last ∙ sym polls_now)
-                (adds_both (FlaggedIn lists.retired scanned)
-                (PolledTo (is_unheard table.announcers swept.me.0.heard) lists.retired (length lists.retired))
-                (λ slot. 0 < retirements slot lists.retired)
-                (SaidBehind mid.me.0.marks.loads swept.me.0.marks.loads) (HeldThen swept.me.0.seen last.me.0.seen)
-                kept_then []
-                swept.me.0.marks.polls last.me.0.marks.polls
-                (λ slot waits. by_cases
-                (λ (b : Bool). is_flagged scanned slot ≡ b
-                → FlaggedIn lists.retired scanned slot
-                ⊎ PolledTo (is_unheard table.announcers swept.me.0.heard) lists.retired (length lists.retired) slot)
-                (is_flagged scanned slot) (λ _ is. inl (waits, is))
-                (λ _ is. inr (
-                  reached_all lists.retired slot waits,
-                  sym (flag_is table lists.retired swept.me.0.heard scanned flagged slot) ∙ is,
-                )) refl)
-                (λ slot flagged. flagged.0)
-                (λ slot polled. reached_waits lists.retired slot (length lists.retired) polled.0)
-                (λ slot note said. inr (said_among slot note said))
-                (λ slot note held. inl
-                (held_within (grows_from up_to) (grows_from one) held))
-                (subst
-                (Adds (FlaggedIn lists.retired scanned) (SaidBehind mid.me.0.marks.loads swept.me.0.marks.loads) [])
-                (base_is table lists scanned mid swept same sized some_words scan) scan.said)
-                second.kept));
+            kept = rw polls_now (record {
+              slots = λ slot waits.
+                  by_cases
+                  (λ (b : Bool). is_flagged scanned slot ≡ b
+                  → (at : ℕ) × (note : Past) × (get_elem? (swept.me.0.marks.polls ++ notes) at ≡ some note)
+                  × KeptThen before.me.0.seen now.me.0.seen (all_loads more) slot note)
+                  (is_flagged scanned slot)
+                  (λ _ is.
+                  let (at, note, there, said) = now_keep.slots slot (waits, is) in
+                  (at, note, at_left swept.me.0.marks.polls notes at note there, inr (said_among slot note said)))
+                  (λ _ is.
+                  let (at, note, there, held)
+                  = slot_kept unheard lists.retired second_pass slot waits
+                  (sym (flag_is table lists.retired swept.me.0.heard scanned flagged slot) ∙ is) in (
+                    length swept.me.0.marks.polls + at,
+                    note,
+                    at_behind swept.me.0.marks.polls notes at ∙ there,
+                    inl (held_within (grows_from up_to) (grows_from one) held),
+                  ))
+                  refl;
+              keepers =
+                  each_both
+                  (λ note. (slot : ℕ) × (0 < retirements slot lists.retired)
+                  × KeptThen before.me.0.seen now.me.0.seen (all_loads more) slot note)
+                  swept.me.0.marks.polls notes
+                  (λ at note there. let (slot, (waits, _), keeps) = now_keep.each at note there in
+                  (slot, waits, inr (said_among slot note keeps.said)))
+                  (λ at note there. let (slot, waits, held) = note_kept unheard lists.retired second_pass at note there in
+                  (slot, waits, inl (held_within (grows_from up_to) (grows_from one) held)));
+              range = in_range;
+            });
             marks =
                 marks_on now.me.0.marks more
-                (gave.marks ∙ (passed_all second).1
+                (gave.marks ∙ second_pass.held.marks
                 ∙ ap (λ (l : List Past). with_scan swept.me.0.marks l (swept.me.0.marks.loads ++ more))
-                (polls_last ∙ sym polls_now));
+                (sym polls_now));
           }

@@ -27,8 +27,8 @@ use Rattle.nr_core.specs.declared.shape.Shape.{Shape}
 use Rattle.nr_core.proofs.ReapMarks.{probes_marked}
 use Rattle.nr_core.specs.Marks.{Marks, OfSlot, with_reaped, with_scan}
 use Rattle.nr_core.specs.MarkSteps.{ProbeTells, ProbesMarks}
-use Rattle.nr_board.proofs.HeldPolls.{held_many, one_more_polled, split_here, up_to_passed, up_to_polled}
-use Rattle.nr_board.proofs.HeldSlots.{held_free, held_none, held_on, held_past}
+use Rattle.nr_board.proofs.HeldPolls.{held_many, polled_before, split_here, up_to_passed, up_to_polled}
+use Rattle.nr_board.proofs.HeldSlots.{held_free, held_none, held_on}
 use Rattle.nr_board.proofs.Lift.{knows_pasts, lends_on, lifts, sees_alone}
 use Rattle.nr_board.proofs.Moves.{ActsGo, waited, waiting as learns_nothing}
 use Rattle.nr_board.proofs.PollNotes.{StandsAt, at_get}
@@ -62,20 +62,15 @@ probes_so shape slots id me desk poll entry is idle here heard =
     let at_word : ℕ = departures shape entry.slot in
     let tells = LoadsWord view.role in
     let notes = ProbesMarks shape view.marks entry in
-    lifts shape id view (Load at_word) tells notes slots me.1
-    (λ found next. (other : Desk) (place : ℕ) (named : Retired) → view.role ≡ Writer other → other.place ≡ Idle
+    let then : ℕ → View → Type 0
+    = λ found next. (other : Desk) (place : ℕ) (named : Retired) → view.role ≡ Writer other → other.place ≡ Idle
     → Room view.shape other
     → get_elem? other.retired place ≡ some named → at_word ≡ departures view.shape named.slot
-    → ProbesTo view.shape named found view next)
-    view.pasts (learns shape id view.role at_word)
+    → ProbesTo view.shape named found view next in
+    lifts shape id view (Load at_word) tells notes slots me.1 then view.pasts (learns shape id view.role at_word)
     (probes_marked role_of marks_of shape id view view.pasts desk poll entry here idle is)
     (knows_pasts shape id view)
-    (sees_alone shape id view (Load at_word) tells notes
-    (λ found next. (other : Desk) (place : ℕ) (named : Retired) → view.role ≡ Writer other → other.place ≡ Idle
-    → Room view.shape other
-    → get_elem? other.retired place ≡ some named → at_word ≡ departures view.shape named.slot
-    → ProbesTo view.shape named found view next)
-    entry.slot (ap is_writer is) heard refl (λ _. refl)
+    (sees_alone shape id view (Load at_word) tells notes then entry.slot (ap is_writer is) heard refl (λ _. refl)
     (λ state kept at.
     ((kept.core.knows id (Writer desk) (at_map role_of state.views id view at ∙ ap some is)).retired poll entry
     here).0)
@@ -86,16 +81,11 @@ probes_so shape slots id me desk poll entry is idle here heard =
     let callers : AreCallers shape step.entries = subst (AreCallers shape) (sym step.told.1) tt in
     let acts : ActsGo view step.after step.entries marked.now
     = λ reads. absurd (let none : is_reader step.after ≡ 0 = ap is_reader (step.told.0 ∙ is) in omega arith) in
-    let next = waited view step.after marked.now marked.news in
     learns_nothing kept there step marked (ap caller_number step.told.0) sized callers acts
     (λ _. probe_names (same_count found entry.arrivals) shape view.marks entry.slot marked.now marked.told.1)
-    (λ next. (other : Desk) (place : ℕ) (named : Retired) → view.role ≡ Writer other → other.place ≡ Idle
-    → Room view.shape other
-    → get_elem? other.retired place ≡ some named → at_word ≡ departures view.shape named.slot
-    → ProbesTo view.shape named found view next)
-    marked.told.0 step.told.1
+    (then found) marked.told.0 step.told.1
     (λ _ other place named also still room here' at_word'.
-    let one_desk : desk ≡ other = sym (ap desk_of is) ∙ ap desk_of also in
+    let one_desk : desk ≡ other = cc in
     let one_slot : entry.slot ≡ named.slot
     = same_departures shape entry.slot named.slot (at_word' ∙ ap (λ (s : Shape). departures s named.slot) sized) in
     let there' : get_elem? other.retired poll ≡ some entry
@@ -103,16 +93,17 @@ probes_so shape slots id me desk poll entry is idle here heard =
     let one_place = room.apart poll place entry named there' here' one_slot in
     let one_entry : entry ≡ named
     = some-injective entry named (sym there' ∙ ap (get_elem? other.retired) one_place ∙ here') in
-    let next_is : next ≡ record view { steps = view.steps + 1; marks = marked.now }
-    = λ j.
-    record view {
-      role = step.told.0 j;
-      steps = view.steps + 1;
-      marks = marked.now;
-      pasts = marked.told.0 j ++ view.pasts;
-    } in
-    subst (λ (p : Shape × Retired). ProbesTo p.0 p.1 found view next) (λ j. (sym sized j, one_entry j))
-    (next_is, marked.told.1)))
+    subst (λ (p : Shape × Retired). ProbesTo p.0 p.1 found view (waited view step.after marked.now marked.news))
+    (λ j. (sym sized j, one_entry j)) (
+      λ j.
+          record view {
+            role = step.told.0 j;
+            steps = view.steps + 1;
+            marks = marked.now;
+            pasts = marked.told.0 j ++ view.pasts;
+          },
+      marked.told.1,
+    )))
 
 -- THE SWEEP
 
@@ -126,7 +117,7 @@ pub swept_none : (lists : SlotLists) (seat : MapSeat) → SweptTo lists seat sea
 swept_none lists seat =
     let steps : seat.me.0.steps ≡ seat.me.0.steps + 0 = omega arith in record {
       own = refl;
-      held = held_none (is_passed lists seat.me.0) lists.retired seat.me.0;
+      held = held_none seat.me.0;
       view = λ j. record seat.me.0 { steps = steps j };
       some_wait = (refl, refl);
     }
@@ -149,7 +140,7 @@ module
   passed now some_wait gone =
       record {
         own = so_far.own;
-        held = held_past so_far.held here gone;
+        held = rw (up_to_passed (is_passed lists before.me.0) here gone) so_far.held;
         view = rw (up_to_passed (is_passed lists before.me.0) here gone) so_far.view;
         some_wait = some_wait;
       }
@@ -194,14 +185,17 @@ module
 
     pub swept_more : same_count found this.arrivals ≡ false → SweptTo lists before after (place + 1) true
     swept_more apart =
-        let told = told_of false apart in
+        let passes = is_passed lists before.me.0 in
+        let more = up_to_polled passes here polled in
         let steps : before.me.0.steps + length (ready_before lists before.me.0 place) + 1
         ≡ before.me.0.steps + length (ready_before lists before.me.0 (place + 1))
-        = omega (arith, one_more_polled (is_passed lists before.me.0) here polled) in record {
+        = omega (arith, ap length more, length-append (ready_before lists before.me.0 place) (this ∷ [])) in record {
           own = own ∙ so_far.own;
           held =
-              held_on so_far.held here polled after.me.0 table.shape
-              (sym (ap (λ (t : Table). t.shape.readers) rests.writes.own)) rests.writes.room.apart told;
+              rw more
+              (held_on so_far.held this after.me.0 table.shape
+              (sym (ap (λ (t : Table). t.shape.readers) rests.writes.own))
+              (polled_before passes here rests.writes.room.apart) (told_of false apart));
           view = view_on ∙ (λ j. record before.me.0 { steps = steps j; marks = after.me.0.marks });
           some_wait = this_waits stays;
         }
@@ -216,7 +210,7 @@ module
         let marks : after.me.0.marks
         ≡ with_reaped (with_scan view.marks (view.marks.polls ++ so_far.held.notes) (view.marks.loads ++ polls))
         this.slot
-        = told_of true agree ∙ ap (λ (m : Marks). with_reaped m this.slot) (held_free so_far.held here refl) in (
+        = told_of true agree ∙ ap (λ (m : Marks). with_reaped m this.slot) (held_free so_far.held this refl) in (
           held,
           not_passed (is_passed lists view) (drop (place + 1) lists.retired),
           this,

@@ -3,8 +3,9 @@ use Rattle.std.proofs.Common.{◌≡◌, ℕ, ◌+◌, List, [], ◌++◌, sym, 
 use Rattle.atomic_table.specs.Seated.{TableId}
 use Rattle.atomic_table.specs.declared.shared.Seat.{Seat}
 use Rattle.nr_model.specs.Histories.{Entry, IsLegal, entries_of}
-use Rattle.nr_board.specs.Callers.{Caller, Grows, Rests, Table, caller_of, map_at_opening, token}
+use Rattle.nr_board.specs.Callers.{Caller, Grows, IsSound, Rests, Table, caller_of, map_at_opening, token}
 use Rattle.nr_board.specs.Plays.{Advances, Waits}
+use Rattle.nr_board.specs.Rule.{StartsWith}
 use Rattle.nr_board.specs.Entries.{AreCallers}
 use Rattle.nr_board.specs.Views.{View}
 
@@ -69,3 +70,25 @@ grows_both {a = a} {entries = entries} {c = c} is first then = record {
   pasts = then.pasts ∙ first.pasts;
   loaded_ahead = then.loaded_ahead ∙ first.loaded_ahead;
 }
+
+-- no step, where what is known is legal
+pub grows_none : {caller : Caller} → IsSound caller → Grows 0 [] caller caller
+grows_none {caller = caller} knows = record {
+  table = refl;
+  number = refl;
+  between = [];
+  seen = sym (append-nil (caller.seen ++ []) ∙ append-nil caller.seen);
+  mine = sym (append-nil caller.mine);
+  legal = knows.legal;
+  own = knows.own;
+  callers = knows.callers;
+  steps_made = omega arith;
+  pasts = refl;
+  loaded_ahead = refl;
+}
+
+-- what grew begins with what it was
+pub grows_from : {steps : ℕ} {old : Caller} {entries : List Entry} {new : Caller} → Grows steps entries old new
+    → StartsWith new.seen old.seen
+grows_from {old = old} {entries = entries} grows =
+    record { rest = grows.between ++ entries; is = grows.seen ∙ append_assoc old.seen grows.between entries }

@@ -1,36 +1,36 @@
 -- A whole scan, word by word, as the writer's seat makes it: in a search, and between two calls.
-use Rattle.std.proofs.lemmas.Bool.{false≢true}
-use Rattle.std.proofs.Common.{◌≡◌, ℕ, suc, ◌+◌, ◌<◌, ◌≤◌, List, [], ◌∷◌, Bool, length, get_or, refl, sym, ap, ◌∙◌}
-use Rattle.std.proofs.Common.{subst, arith}
+use Rattle.std.proofs.lemmas.Bool.{false≢true, lt-ltb, ltb-false, ltb-true}
+use Rattle.std.proofs.Common.{◌≡◌, ℕ, suc, ◌+◌, ◌<◌, ◌≤◌, List, [], ◌∷◌, ◌++◌, Bool, cond, length, get_or, refl, sym}
+use Rattle.std.proofs.Common.{ap, ◌∙◌, subst, arith}
+use Rattle.std.specs.Prelude.{nat_lt}
 use mathlib.Core.Logic.{dite}
 use mathlib.Core.Option.{some, some-ne-none}
 use native.Mathlib.Decide.{ℕ_discrete}
 use lib.ListN.{get_elem?}
+use Rattle.nr_core.proofs.Choices.{on_test}
 use Rattle.nr_core.proofs.Sums.{only-is, only-le, only-other, some_term}
 use Rattle.nr_core.specs.Roles.{retirements}
 use Rattle.nr_core.specs.Sums.{only}
 use Rattle.nr_core.specs.declared.places.Retired.{Retired}
 use Rattle.nr_core.specs.declared.roles.Desk.{Desk}
-use Rattle.nr_core.specs.Marks.{with_loads}
-use Rattle.nr_board.proofs.WordLoads.{words_begin, words_many, words_more, words_told}
-use Rattle.nr_board.specs.Flags.{OthersFlagged}
+use Rattle.nr_core.specs.declared.roles.Role.TheVariants.{Writer}
+use Rattle.nr_core.specs.Marks.{with_scan}
+use Rattle.nr_board.proofs.WordLoads.{heard_of_at, words_begin, words_many, words_more, words_told}
+use Rattle.nr_board.specs.Flags.{Flagged, OthersFlagged}
 use Rattle.nr_board.specs.Scans.{heard_from}
-use Rattle.nr_board.specs.Callers.{Table}
+use Rattle.nr_board.specs.Callers.{Table, token}
 use Rattle.nr_board.specs.Plays.{Room}
 use Rattle.nr_core.specs.declared.places.Place.TheVariants.{Idle}
 use Rattle.nr_board.specs.SearchSeats.{HearsWord, ScansAt, SearchesIn, SearchesOn}
 use Rattle.nr_board.specs.SlotLists.{desk_with}
 use Rattle.nr_board.specs.Views.{View}
-use Rattle.nr_board.specs.WordLoads.{WordsSoFar}
+use Rattle.nr_board.specs.WordLoads.{heard_of, unsaid, word_load}
 use Rattle.nr_board.specs.WriterSeats.{MapSeat, RestsAt}
 use Rattle.nr_core.specs.SlotLists.{SlotLists}
 use Rattle.nr_core.specs.declared.shape.Shape.{Shape}
-use Rattle.nr_board.specs.WholeScans.{FlaggedIn, HeardTo, NoneFlagged, RestsHearing, SaidBehind, ScannedTo, announced}
-use Rattle.nr_board.proofs.Keepers.{adds_none}
+use Rattle.nr_board.specs.WholeScans.{LoadedTo, NoneFlagged, RestsHearing, ScannedTo, announced}
 use Rattle.nr_board.proofs.PollNotes.{is_retired}
-use Rattle.nr_board.proofs.ScannedWords.{announced_wide, heard_so, misses_none, more_flags, quiet_so, scanned_more}
-
--- BY A SEARCH
+use Rattle.nr_board.proofs.ScannedWords.{announced_wide, flags_more, keep_so, misses_none, more_flags}
 
 -- the retired slots are different slots of the map
 module _ (shape : Shape) (desk : Desk) (room : Room shape desk) where
@@ -63,72 +63,162 @@ module _ (shape : Shape) (desk : Desk) (room : Room shape desk) where
           (λ ne. let none = only-other slot x.slot ne in omega arith)
 
 -- the scan so far, as the writer's seat makes it
-pub record ScanGoes (table : Table) (lists : SlotLists) (before now : MapSeat) (flags : List Bool)
+pub record ScanGoes (table : Table) (retired : List Retired) (before now : MapSeat) (flags : List Bool)
     (own : ℕ) : Type 0 where
   pub own_table : now.table_id ≡ before.table_id
-  pub search : SearchesIn table lists now
-  pub scanned : ScannedTo lists.retired before.me.0 now.me.0 flags own
+  pub loaded : LoadedTo retired before.me.0 now.me.0 flags own
   pub wide : length flags ≡ table.shape.slots
-  pub others : OthersFlagged lists.retired flags
-  pub quiet : 0 < own → (slot : ℕ) → retirements slot lists.retired ≡ 0 → get_or now.me.0.heard slot 0 ≡ 0
+  pub others : OthersFlagged retired flags
 
-pub scan_begins : (table : Table) (lists : SlotLists) (seat : MapSeat) (flags : List Bool) → SearchesIn table lists seat
-    → NoneFlagged lists.retired flags → length flags ≡ table.shape.slots → OthersFlagged lists.retired flags
-    → ScanGoes table lists seat seat flags 0
-scan_begins table lists seat flags search none wide others =
+-- a load of a reader's own word leaves all but what it hears and notes
+abbrev Loads : Desk → ℕ → ℕ → View → View → Type 0
+Loads desk own found old new =
+    new
+    ≡ record old {
+      steps = old.steps + 1;
+      marks = with_scan old.marks new.marks.polls (old.marks.loads ++ word_load own found ∷ []);
+      heard = heard_from desk own found old.heard 0 old.shape.slots;
+    }
+
+goes_none : {table : Table} {retired : List Retired} {seat : MapSeat} {flags : List Bool} → NoneFlagged retired flags
+    → length flags ≡ table.shape.slots → OthersFlagged retired flags → ScanGoes table retired seat seat flags 0
+unfolding words_begin
+goes_none {retired = retired} {seat = seat} none wide others =
     let view = seat.me.0 in
-    let more : view.steps ≡ view.steps + 0 = omega arith in
-    record {
+    let more : view.steps ≡ view.steps + 0 = omega arith in record {
       own_table = refl;
-      search = search;
-      scanned = record {
+      loaded = record {
         rest = λ j. record view { steps = more j };
-        words = words_begin lists.retired view.shape.slots view.marks.loads view.heard;
-        first = λ _. none;
-        heard = λ later. absurd (omega arith);
-        keep = record {
-          many =
-              sym
-              (misses_none lists.retired flags
-              (λ at entry there. none entry.slot (is_retired lists.retired at entry there)));
-          each = λ at note there. absurd (some-ne-none note (sym there));
-          apart = λ reader. omega arith;
-        };
-        said =
-            adds_none (FlaggedIn lists.retired flags) (SaidBehind view.marks.loads view.marks.loads) []
-            (λ slot flagged. false≢true (sym (none slot flagged.0) ∙ flagged.1));
+        words = words_begin retired view.shape.slots view.marks.loads view.heard;
+        flags_tell = none;
       };
       wide = wide;
       others = others;
-      quiet = λ later. absurd (omega arith);
     }
 
+module _ {table : Table} {before now next : MapSeat} {flags : List Bool} {own : ℕ} (found : ℕ) (desk : Desk)
+    (room : Room table.shape desk) (so_far : ScanGoes table desk.retired before now flags own)
+    (sized : now.me.0.shape ≡ table.shape) (same : next.table_id ≡ now.table_id)
+    (told : Loads desk own found now.me.0 next.me.0) where
+  goes_on : ScanGoes table desk.retired before next (announced found flags) (own + 1)
+  unfolding words_more
+  goes_on =
+      let loaded = so_far.loaded in
+      let loads = ap (λ (v : View). v.marks.loads) told in
+      let heard = ap (λ (v : View). v.heard) told in
+      let steps : before.me.0.steps + own + 1 ≡ before.me.0.steps + (own + 1) = omega arith in record {
+        own_table = same ∙ so_far.own_table;
+        loaded = record {
+          rest =
+              told
+              ∙ (λ j.
+              record (loaded.rest j) {
+                steps = (loaded.rest j).steps + 1;
+                marks = with_scan (loaded.rest j).marks next.me.0.marks.polls (sym loads j);
+                heard = sym heard j;
+              })
+              ∙ (λ j.
+              record before.me.0 {
+                steps = steps j;
+                marks = with_scan before.me.0.marks next.me.0.marks.polls next.me.0.marks.loads;
+                heard = next.me.0.heard;
+              });
+          words =
+              words_more desk own found before.me.0.shape.slots before.me.0.marks.loads now.me.0.marks.loads
+              next.me.0.marks.loads now.me.0.heard next.me.0.heard loaded.words loads
+              (heard ∙ ap (λ (v : View). heard_from desk own found now.me.0.heard 0 v.shape.slots) loaded.rest);
+          flags_tell =
+              flags_more desk.retired flags loaded.words.words found
+              (λ slot waits. omega (arith, retired_inside table.shape desk room slot waits, so_far.wide))
+              loaded.flags_tell;
+        };
+        wide = announced_wide found flags ∙ so_far.wide;
+        others = λ slot none. more_flags found flags slot (so_far.others slot none);
+      }
+
+-- what the flags tell after all words
+pub scan_flagged : {table : Table} {retired : List Retired} {before now : MapSeat} {flags : List Bool}
+    → 0 < table.announcers → before.me.0.shape ≡ table.shape
+    → ((slot : ℕ) → 0 < retirements slot retired → slot < table.shape.slots)
+    → ScanGoes table retired before now flags table.announcers → Flagged table retired now.me.0.heard flags
+scan_flagged {table = table} {retired = retired} {before = before} {now = now} {flags = flags} some_words sized inside
+    goes =
+    let so_far = goes.loaded.words in
+    let heard : (slot : ℕ) → get_or now.me.0.heard slot 0
+    ≡ cond (nat_lt slot table.shape.slots) (heard_of retired so_far.words slot) 0
+    = λ slot. ap (λ (l : List ℕ). get_or l slot 0) (so_far.tell some_words)
+    ∙ heard_of_at retired so_far.words before.me.0.shape.slots slot
+    ∙ ap (λ (s : Shape). cond (nat_lt slot s.slots) (heard_of retired so_far.words slot) 0) sized in
+    let told : (slot : ℕ) → 0 < retirements slot retired → get_or now.me.0.heard slot 0 ≡ unsaid slot so_far.words
+    = λ slot waits. heard slot
+    ∙ rw (lt-ltb slot table.shape.slots (inside slot waits), lt-ltb 0 (retirements slot retired) waits) refl in record {
+      wide = goes.wide;
+      whole = λ slot unset. dite (ℕ_discrete (retirements slot retired) 0)
+          (λ none. absurd (false≢true (sym unset ∙ goes.others slot none)))
+          (λ some_there.
+          let waits : 0 < retirements slot retired = omega arith in
+          let all = ltb-false _ _ (sym (goes.loaded.flags_tell slot waits) ∙ unset) in
+          omega (arith, told slot waits, all, so_far.each));
+      stuck = λ slot flag. dite (ℕ_discrete (retirements slot retired) 0)
+          (λ none.
+          let quiet : cond (nat_lt slot table.shape.slots) (heard_of retired so_far.words slot) 0 ≡ 0
+          = on_test (λ (n : ℕ). n ≡ 0) (nat_lt slot table.shape.slots) (λ _. rw none refl) (λ _. refl) in
+          omega (arith, heard slot, quiet))
+          (λ some_there.
+          let waits : 0 < retirements slot retired = omega arith in
+          let few = ltb-true _ _ (sym (goes.loaded.flags_tell slot waits) ∙ flag) in
+          omega (arith, told slot waits, few, so_far.each));
+      others = goes.others;
+    }
+
+-- IN A SEARCH
+
+pub record SearchScans (table : Table) (lists : SlotLists) (before now : MapSeat) (flags : List Bool)
+    (own : ℕ) : Type 0 where
+  pub goes : ScanGoes table lists.retired before now flags own
+  pub search : SearchesIn table lists now
+  pub scanned : ScannedTo lists.retired before.me.0 now.me.0 flags own
+
+pub scan_begins : (table : Table) (lists : SlotLists) (seat : MapSeat) (flags : List Bool) → SearchesIn table lists seat
+    → NoneFlagged lists.retired flags → length flags ≡ table.shape.slots → OthersFlagged lists.retired flags
+    → SearchScans table lists seat seat flags 0
+scan_begins table lists seat flags search none wide others = let goes = goes_none none wide others in record {
+  goes = goes;
+  search = search;
+  scanned = record {
+    loaded = goes.loaded;
+    keep = record {
+      many =
+          sym
+          (misses_none lists.retired flags
+          (λ at entry there. none entry.slot (is_retired lists.retired at entry there)));
+      apart = λ reader. omega arith;
+      each = λ at note there. absurd (some-ne-none note (sym there));
+      slots = λ slot flagged. absurd (false≢true (sym (none slot flagged.0) ∙ flagged.1));
+    };
+  };
+}
+
 pub scan_goes : (table : Table) (lists : SlotLists) (before now next : MapSeat) (flags : List Bool) (own found : ℕ)
-    → ScanGoes table lists before now flags own → next.table_id ≡ now.table_id → SearchesOn own found now.me.0 next.me.0
-    → ScanGoes table lists before next (announced found flags) (own + 1)
+    → SearchScans table lists before now flags own → next.table_id ≡ now.table_id
+    → SearchesOn own found now.me.0 next.me.0 → SearchScans table lists before next (announced found flags) (own + 1)
 scan_goes table lists before now next flags own found so_far same tells =
     let search = so_far.search.search in
     let desk = search.desk in
     let told = tells desk search.call search.rows search.role search.place in
-    let size = ap (λ (t : Table). t.shape) search.own in
+    let sized = ap (λ (t : Table). t.shape) search.own in
     let listed = so_far.search.retired in
-    let one_more : suc own ≡ own + 1 = omega arith in
-    let once = retired_once table.shape desk search.room in
-    let near : (slot : ℕ) → 0 < retirements slot desk.retired → slot < now.me.0.shape.slots
-    = λ slot waits.
-    let near = retired_inside table.shape desk search.room slot waits in
-    let slots = ap (λ (s : Shape). s.slots) size in
-    omega arith in
-    let wide = so_far.wide ∙ ap (λ (s : Shape). s.slots) (sym size) in
-    let before_it
-    = subst (λ (l : List Retired). ScannedTo l before.me.0 now.me.0 flags own) (sym listed) so_far.scanned in
-    let scanned = scanned_more desk before.me.0 now.me.0 next.me.0 flags own found once near wide before_it told in
-    let quiet
-    = quiet_so desk now.me.0 next.me.0 flags own found once near wide before_it.first before_it.heard
-    (ap (λ (v : View). v.heard) told.same)
-    (rw listed so_far.quiet) in
+    let goes
+    = goes_on found desk search.room
+    (subst (λ (l : List Retired). ScanGoes table l before now flags own) (sym listed) so_far.goes) sized same
+    told.same in
+    let keep
+    = keep_so desk before.me.0 now.me.0 next.me.0 flags own found (retired_once table.shape desk search.room)
+    (λ slot waits. rw sized (retired_inside table.shape desk search.room slot waits))
+    (so_far.goes.wide ∙ ap (λ (s : Shape). s.slots) (sym sized))
+    (subst (λ (l : List Retired). ScannedTo l before.me.0 now.me.0 flags own) (sym listed) so_far.scanned) told in
     record {
-      own_table = same ∙ so_far.own_table;
+      goes = rw (sym listed) goes;
       search = record {
         search = record {
           own =
@@ -144,135 +234,87 @@ scan_goes table lists before now next flags own found so_far same tells =
         retired = listed;
         slots = so_far.search.slots;
       };
-      scanned =
-          subst (λ (p : List Retired × ℕ). ScannedTo p.0 before.me.0 next.me.0 (announced found flags) p.1)
-          (λ j. (listed j, one_more j)) scanned;
-      wide = announced_wide found flags ∙ so_far.wide;
-      others = λ slot none. more_flags found flags slot (so_far.others slot none);
-      quiet = λ _. rw (sym listed) quiet;
+      scanned = rw (sym listed) (record { loaded = goes.loaded; keep = keep });
     }
 
--- BETWEEN CALLS
+pub search_flagged : {table : Table} {lists : SlotLists} {before now : MapSeat} {flags : List Bool}
+    → 0 < table.announcers → SearchesIn table lists before → SearchScans table lists before now flags table.announcers
+    → Flagged table lists.retired now.me.0.heard flags
+search_flagged {table = table} some_words search so_far =
+    scan_flagged some_words (ap (λ (t : Table). t.shape) search.search.own)
+    (subst (λ (l : List Retired). (slot : ℕ) → 0 < retirements slot l → slot < table.shape.slots) search.retired
+    (retired_inside table.shape search.search.desk search.search.room)) so_far.goes
 
--- the scan so far of a writer that rests
-pub record RestingScan (table : Table) (lists : SlotLists) (before now : MapSeat) (flags : List Bool) (own : ℕ) : Type
-    0 where
-  pub own_table : now.table_id ≡ before.table_id
-  pub rest : now.me.0
-      ≡ record before.me.0 {
-        steps = before.me.0.steps + own;
-        marks = with_loads before.me.0.marks now.me.0.marks.loads;
-        heard = now.me.0.heard;
-      }
-  pub words : WordsSoFar own lists.retired before.me.0.shape.slots before.me.0.marks.loads now.me.0.marks.loads
-      now.me.0.heard
-  pub first : own ≡ 0 → NoneFlagged lists.retired flags
-  pub heard : 0 < own → HeardTo lists.retired flags own now.me.0.heard
-  pub wide : length flags ≡ table.shape.slots
-  pub others : OthersFlagged lists.retired flags
-  pub quiet : 0 < own → (slot : ℕ) → retirements slot lists.retired ≡ 0 → get_or now.me.0.heard slot 0 ≡ 0
+-- BETWEEN TWO CALLS
+
+pub record RestingScan (table : Table) (lists : SlotLists) (before now : MapSeat) (flags : List Bool)
+    (own : ℕ) : Type 0 where
+  pub goes : ScanGoes table lists.retired before now flags own
+  pub polls : now.me.0.marks.polls ≡ before.me.0.marks.polls
 
 pub resting_scan_begins : (table : Table) (lists : SlotLists) (seat : MapSeat) (flags : List Bool)
     → NoneFlagged lists.retired flags → length flags ≡ table.shape.slots → OthersFlagged lists.retired flags
     → RestingScan table lists seat seat flags 0
-resting_scan_begins table lists seat flags none wide others =
-    let view = seat.me.0 in
-    let more : view.steps ≡ view.steps + 0 = omega arith in
-    record {
-      own_table = refl;
-      rest = λ j. record view { steps = more j };
-      words = words_begin lists.retired view.shape.slots view.marks.loads view.heard;
-      first = λ _. none;
-      heard = λ later. absurd (omega arith);
-      wide = wide;
-      others = others;
-      quiet = λ later. absurd (omega arith);
-    }
+resting_scan_begins table lists seat flags none wide others = record { goes = goes_none none wide others; polls = refl }
 
-module _ (table : Table) (lists : SlotLists) (before now : MapSeat) (flags : List Bool) (own : ℕ)
+module _ {table : Table} {lists : SlotLists} {before now : MapSeat} {flags : List Bool} {own : ℕ}
     (rests : RestsAt table lists before) (so_far : RestingScan table lists before now flags own) where
+  own_is : (token now).table ≡ table
+  own_is =
+      let rest = so_far.goes.loaded.rest in
+      (λ j. record { id = so_far.goes.own_table j; shape = (rest j).shape; announcers = (rest j).announcers })
+      ∙ rests.writes.own
+
+  role_is : now.me.0.role ≡ Writer (desk_with lists Idle)
+  role_is = ap (λ (v : View). v.role) so_far.goes.loaded.rest ∙ rests.writes.role
+
   -- each word may be loaded
   pub resting_scan_at : (word : ℕ) → word < table.announcers → ScansAt table word now
-  resting_scan_at word low = record {
-    own_table =
-        (λ j.
-        record { id = so_far.own_table j; shape = (so_far.rest j).shape; announcers = (so_far.rest j).announcers })
-        ∙ rests.writes.own;
-    desk = desk_with lists Idle;
-    role = ap (λ (v : View). v.role) so_far.rest ∙ rests.writes.role;
-    within = low;
-  }
+  resting_scan_at word low =
+      record { own_table = own_is; desk = desk_with lists Idle; role = role_is; within = low }
 
-  pub resting_scan_goes : (next : MapSeat) (found : ℕ) → next.table_id ≡ now.table_id
+  pub resting_scan_goes : {next : MapSeat} (found : ℕ) → next.table_id ≡ now.table_id
       → HearsWord own found now.me.0 next.me.0 → RestingScan table lists before next (announced found flags) (own + 1)
-  resting_scan_goes next found same hears =
+  resting_scan_goes {next = next} found same hears =
       let desk = desk_with lists Idle in
-      let told = hears desk (ap (λ (v : View). v.role) so_far.rest ∙ rests.writes.role) in
-      let size : now.me.0.shape ≡ table.shape
-      = ap (λ (v : View). v.shape) so_far.rest ∙ ap (λ (t : Table). t.shape) rests.writes.own in
-      let once = retired_once table.shape desk rests.writes.room in
-      let near : (slot : ℕ) → 0 < retirements slot desk.retired → slot < now.me.0.shape.slots
-      = λ slot waits.
-      let near = retired_inside table.shape desk rests.writes.room slot waits in
-      let slots = ap (λ (s : Shape). s.slots) size in
-      omega arith in
-      let wide = so_far.wide ∙ ap (λ (s : Shape). s.slots) (sym size) in
-      let heard = ap (λ (v : View). v.heard) told in
-      let loads = ap (λ (v : View). v.marks.loads) told in
-      let one_more : suc own ≡ own + 1 = omega arith in
-      let steps : before.me.0.steps + own + 1 ≡ before.me.0.steps + (own + 1) = omega arith in record {
-        own_table = same ∙ so_far.own_table;
-        rest =
-            told
-            ∙ (λ j.
-            record now.me.0 {
-              steps = now.me.0.steps + 1;
-              marks = with_loads now.me.0.marks (sym loads j);
-              heard = sym heard j;
-            })
-            ∙ (λ j.
-            record (so_far.rest j) {
-              steps = (so_far.rest j).steps + 1;
-              marks = with_loads (so_far.rest j).marks next.me.0.marks.loads;
-              heard = next.me.0.heard;
-            })
-            ∙ (λ j.
-            record before.me.0 {
-              steps = steps j;
-              marks = with_loads before.me.0.marks next.me.0.marks.loads;
-              heard = next.me.0.heard;
-            });
-        words =
-            rw (sym one_more)
-            (words_more desk own found before.me.0.shape.slots before.me.0.marks.loads now.me.0.marks.loads
-            next.me.0.marks.loads now.me.0.heard next.me.0.heard so_far.words loads
-            (heard ∙ ap (λ (v : View). heard_from desk own found now.me.0.heard 0 v.shape.slots) so_far.rest));
-        first = λ none. absurd (omega arith);
-        heard = λ _. rw (sym one_more)
-            (heard_so desk now.me.0 next.me.0 flags own found once near wide so_far.first so_far.heard heard);
-        wide = announced_wide found flags ∙ so_far.wide;
-        others = λ slot none. more_flags found flags slot (so_far.others slot none);
-        quiet = λ _. quiet_so desk now.me.0 next.me.0 flags own found once near wide so_far.first so_far.heard heard
-            so_far.quiet;
+      let told = hears desk role_is in
+      let polls = ap (λ (v : View). v.marks.polls) told in
+      let loads : Loads desk own found now.me.0 next.me.0
+      = told
+      ∙ (λ j.
+      record now.me.0 {
+        steps = now.me.0.steps + 1;
+        marks = with_scan now.me.0.marks (sym polls j) (now.me.0.marks.loads ++ word_load own found ∷ []);
+        heard = heard_from desk own found now.me.0.heard 0 now.me.0.shape.slots;
+      }) in record {
+        goes = goes_on found desk rests.writes.room so_far.goes (ap (λ (t : Table). t.shape) own_is) same loads;
+        polls = polls ∙ so_far.polls;
       }
 
 -- and the words that were loaded are what it heard by
-pub resting_scan_hears : (table : Table) (lists : SlotLists) (before now : MapSeat) (flags : List Bool)
-    → 0 < table.announcers → RestingScan table lists before now flags table.announcers
-    → RestsHearing table.announcers lists.retired before.me.0 now.me.0
-resting_scan_hears table lists before now flags some_words goes =
-    let told
-    = words_told table.announcers lists.retired before.me.0.shape.slots before.me.0.marks.loads now.me.0.marks.loads
-    now.me.0.heard some_words goes.words in
-    let many : before.me.0.steps + table.announcers ≡ before.me.0.steps + length told.0
-    = ap (λ (n : ℕ). before.me.0.steps + n) (sym (words_many told.1)) in (
-      told.0,
-      told.1,
-      goes.rest
-          ∙ (λ j.
-          record before.me.0 {
-            steps = many j;
-            marks = with_loads before.me.0.marks (told.2 j);
-            heard = now.me.0.heard;
-          }),
-    )
+module _ {table : Table} {lists : SlotLists} {before now : MapSeat} {flags : List Bool}
+    (rests : RestsAt table lists before) (some_words : 0 < table.announcers)
+    (so_far : RestingScan table lists before now flags table.announcers) where
+  pub resting_scan_hears : RestsHearing table.announcers lists.retired before.me.0 now.me.0
+  resting_scan_hears =
+      let loaded = so_far.goes.loaded in
+      let told
+      = words_told table.announcers lists.retired before.me.0.shape.slots before.me.0.marks.loads now.me.0.marks.loads
+      now.me.0.heard some_words loaded.words in
+      let many : before.me.0.steps + table.announcers ≡ before.me.0.steps + length told.0
+      = ap (λ (n : ℕ). before.me.0.steps + n) (sym (words_many told.1)) in (
+        told.0,
+        told.1,
+        loaded.rest
+            ∙ (λ j.
+            record before.me.0 {
+              steps = many j;
+              marks = with_scan before.me.0.marks (so_far.polls j) (told.2 j);
+              heard = now.me.0.heard;
+            }),
+      )
+
+  pub resting_flagged : Flagged table lists.retired now.me.0.heard flags
+  resting_flagged =
+      scan_flagged some_words (ap (λ (t : Table). t.shape) rests.writes.own)
+      (retired_inside table.shape (desk_with lists Idle) rests.writes.room) so_far.goes

@@ -1,8 +1,11 @@
 -- What a whole scan tells, load by load: after each load what was heard is what the words so far tell.
 use Rattle.std.proofs.Common.{◌≡◌, ◌≢◌, ℕ, suc, zero, ◌+◌, ◌<◌, ◌≤◌, List, [], ◌∷◌, ◌++◌, cond, length, get_or}
 use Rattle.std.proofs.Common.{nat_eq, refl, sym, ap, ◌∙◌, arith, append_assoc, append-nil, length-append}
+use Rattle.std.proofs.lemmas.Bool.{lt-ltb, ltb-false, ltb-true}
+use Rattle.std.specs.Prelude.{nat_lt, ◌||◌}
 use mathlib.Core.Logic.{dite}
 use native.Mathlib.Decide.{ℕ_discrete}
+use Rattle.nr_core.proofs.Choices.{by_cases}
 use Rattle.nr_core.specs.declared.places.Retired.{Retired}
 use Rattle.nr_core.specs.declared.roles.Desk.{Desk}
 use Rattle.nr_core.specs.Marks.{Marks, Past, LoggedLoad, with_polls, with_scan}
@@ -15,7 +18,7 @@ pub loads_length : (own : ℕ) (words : List ℕ) → length (loads_of own words
 loads_length own [] = refl
 loads_length own (word ∷ words) = let rest = loads_length (suc own) words in omega arith
 
-loads_more : (own found : ℕ) (words : List ℕ)
+pub loads_more : (own found : ℕ) (words : List ℕ)
     → loads_of own (words ++ found ∷ []) ≡ loads_of own words ++ word_load (own + length words) found ∷ []
 loads_more own found [] = let same : own ≡ own + 0 = omega arith in ap (λ (n : ℕ). word_load n found ∷ []) same
 loads_more own found (word ∷ words) = let same : suc own + length words ≡ own + length (word ∷ words) = omega arith in
@@ -28,7 +31,7 @@ no_loads marks polls = λ j. record marks { polls = polls; loads = sym (append-n
 
 -- WORDS THAT DON'T SAY A SLOT
 
-unsaid_few : (slot : ℕ) (words : List ℕ) → unsaid slot words ≤ length words
+pub unsaid_few : (slot : ℕ) (words : List ℕ) → unsaid slot words ≤ length words
 unsaid_few slot [] = omega arith
 unsaid_few slot (word ∷ words) = grind (arith, unsaid_few slot words)
 
@@ -43,6 +46,13 @@ unsaid_on : (slot found : ℕ) (words : List ℕ) → unsaid slot words ≡ leng
 unsaid_on slot found [] all = refl
 unsaid_on slot found (word ∷ words) all = grind (arith, unsaid_on slot found words, unsaid_few slot words)
 
+-- a slot is said by these words and one more where it was said before, or that one says it
+pub unsaid_more : (slot found : ℕ) (words : List ℕ)
+    → nat_lt (unsaid slot (words ++ found ∷ [])) (length (words ++ found ∷ []))
+    ≡ (nat_lt (unsaid slot words) (length words) || nat_eq found (suc slot))
+unsaid_more slot found [] = grind arith
+unsaid_more slot found (word ∷ words) = grind (arith, unsaid_more slot found words)
+
 -- ONE LOAD
 
 module _ (desk : Desk) (found : ℕ) where
@@ -50,7 +60,7 @@ module _ (desk : Desk) (found : ℕ) where
   first_now : (slot count : ℕ) → heard_now desk 0 found slot count ≡ heard_of desk.retired (found ∷ []) slot
   first_now slot count = grind arith
 
-  first_from : (heard : List ℕ) (slot more : ℕ)
+  pub first_from : (heard : List ℕ) (slot more : ℕ)
       → heard_from desk 0 found heard slot more ≡ heard_by desk.retired (found ∷ []) slot more
   first_from heard slot zero = refl
   first_from heard slot (suc more) = λ j. first_now slot (get_or heard slot 0) j ∷ first_from heard (suc slot) more j
@@ -63,7 +73,7 @@ module _ (desk : Desk) (found : ℕ) where
         grind
         (arith, unsaid_on slot found words, unsaid_stays slot words (found ∷ []), unsaid_few slot words)
 
-    next_from : (heard : List ℕ) (slot more : ℕ)
+    pub next_from : (heard : List ℕ) (slot more : ℕ)
         → ((at : ℕ) → slot ≤ at → at < slot + more → get_or heard at 0 ≡ heard_of desk.retired words at)
         → heard_from desk own found heard slot more ≡ heard_by desk.retired (words ++ found ∷ []) slot more
     next_from heard slot zero so = refl
@@ -71,27 +81,42 @@ module _ (desk : Desk) (found : ℕ) where
         so = λ j. next_now slot (get_or heard slot 0) (so slot (omega arith) (omega arith)) j
         ∷ next_from heard (suc slot) more (λ at low high. so at (omega arith) (omega arith)) j
 
-at_heard_by : (retired : List Retired) (words : List ℕ) (slot more at : ℕ) → at < more
+-- what was heard of a slot
+heard_inside : (retired : List Retired) (words : List ℕ) (slot more at : ℕ) → at < more
     → get_or (heard_by retired words slot more) at 0 ≡ heard_of retired words (slot + at)
-at_heard_by retired words slot zero at low = absurd (omega arith)
-at_heard_by retired words slot (suc more) zero low =
-    let same : slot ≡ slot + 0 = omega arith in
-    ap (heard_of retired words) same
-at_heard_by retired words slot (suc more) (suc at) low =
+heard_inside retired words slot zero at low = absurd (omega arith)
+heard_inside retired words slot (suc more) zero low =
+    let same : slot ≡ slot + 0 = omega arith in ap (heard_of retired words) same
+heard_inside retired words slot (suc more) (suc at) low =
     let same : suc slot + at ≡ slot + suc at = omega arith in
-    at_heard_by retired words (suc slot) more at (omega arith) ∙ ap (heard_of retired words) same
+    heard_inside retired words (suc slot) more at (omega arith) ∙ ap (heard_of retired words) same
+
+heard_outside : (retired : List Retired) (words : List ℕ) (slot more at : ℕ) → more ≤ at
+    → get_or (heard_by retired words slot more) at 0 ≡ 0
+heard_outside retired words slot zero at past = refl
+heard_outside retired words slot (suc more) zero past = absurd (omega arith)
+heard_outside retired words slot (suc more) (suc at) past = heard_outside retired words (suc slot) more at (omega arith)
+
+pub heard_of_at : (retired : List Retired) (words : List ℕ) (slots at : ℕ)
+    → get_or (heard_by retired words 0 slots) at 0 ≡ cond (nat_lt at slots) (heard_of retired words at) 0
+heard_of_at retired words slots at =
+    let same : 0 + at ≡ at = omega arith in
+    by_cases (λ b. get_or (heard_by retired words 0 slots) at 0 ≡ cond b (heard_of retired words at) 0)
+    (nat_lt at slots)
+    (λ low. heard_inside retired words 0 slots at (ltb-true at slots low) ∙ ap (heard_of retired words) same)
+    (λ high. heard_outside retired words 0 slots at (ltb-false at slots high))
 
 -- THE SCAN
 
-pub words_begin : (retired : List Retired) (slots : ℕ) (loads : List LoggedLoad) (heard : List ℕ)
+unfoldable pub words_begin : (retired : List Retired) (slots : ℕ) (loads : List LoggedLoad) (heard : List ℕ)
     → WordsSoFar 0 retired slots loads loads heard
 words_begin retired slots loads heard =
     record { words = []; each = refl; loads_are = sym (append-nil loads); tell = λ later. absurd (omega arith) }
 
-pub words_more : (desk : Desk) (own found slots : ℕ) (before now next : List LoggedLoad) (heard after : List ℕ)
+unfoldable pub words_more : (desk : Desk) (own found slots : ℕ) (before now next : List LoggedLoad) (heard after : List ℕ)
     → WordsSoFar own desk.retired slots before now heard
     → next ≡ now ++ word_load own found ∷ [] → after ≡ heard_from desk own found heard 0 slots
-    → WordsSoFar (suc own) desk.retired slots before next after
+    → WordsSoFar (own + 1) desk.retired slots before next after
 words_more desk own found slots before now next heard after so_far loads told = record {
   words = so_far.words ++ found ∷ [];
   each = let both = length-append so_far.words (found ∷ []) in let each = so_far.each in omega arith;
@@ -121,8 +146,7 @@ words_more desk own found slots before now next heard after so_far loads told = 
         → heard_from desk own found heard 0 slots ≡ heard_by desk.retired (so_far.words ++ found ∷ []) 0 slots
     goes_on ne = next_from desk found own so_far.words so_far.each (omega arith) heard 0 slots
         (λ at low high. ap (λ (l : List ℕ). get_or l at 0) (so_far.tell (omega arith))
-        ∙ at_heard_by desk.retired so_far.words 0 slots at (omega arith)
-        ∙ (let same : 0 + at ≡ at = omega arith in ap (heard_of desk.retired so_far.words) same))
+        ∙ heard_of_at desk.retired so_far.words slots at ∙ rw (lt-ltb at slots (omega arith)) refl)
 
 -- all words were loaded
 pub words_told : (readers : ℕ) (retired : List Retired) (slots : ℕ) (before now : List LoggedLoad) (heard : List ℕ)

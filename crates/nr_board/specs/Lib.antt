@@ -15,7 +15,6 @@ pub mod Learning
 pub mod WordLoads
 pub mod SlotLists
 pub mod Polls
-pub mod Noting
 pub mod HeldSlots
 pub mod WriterSeats
 pub mod Searches

@@ -110,7 +110,7 @@ is_passed lists view slot =
 -- the sweep so far: each slot that it polled was held
 pub record SweptTo (lists : SlotLists) (before now : MapSeat) (place : ℕ) (waits : Bool) : Type 0 where
   pub own : now.table_id ≡ before.table_id
-  pub held : HeldTo (is_passed lists (view_of before)) lists.retired (view_of before) (view_of now) place
+  pub held : HeldTo (ready_before lists (view_of before) place) (view_of before) (view_of now)
   pub view : view_of now
       ≡ record (view_of before) {
         steps = (view_of before).steps + length (ready_before lists (view_of before) place);

@@ -1,7 +1,5 @@
 use Rattle.std.proofs.Common.{ap, arith, get_or, refl, subst, sym, ℕ, ◌<◌, ◌≤◌, ◌∙◌, ◌≡◌}
 use Rattle.nr_core.specs.Slots.{departures}
-use Rattle.nr_words.specs.declared.layout.Layout.{Layout}
-use Rattle.nr_words.specs.Places.{Departures, place_of}
 use Rattle.nr_core.specs.States.{retired_at}
 use Rattle.nr_core.specs.declared.places.Place.TheVariants.{Searching}
 use Rattle.nr_board.proofs.PollNotes.{at_get}
@@ -24,8 +22,7 @@ inside table slot seat polling =
 
 pub departures-place-requires-clause-has : goal.departures-place-requires-clause-has
 departures-place-requires-clause-has c =
-    let low = inside c.args.self.now c.args.slot c.args.seat.now c.requires in
-    omega (arith, low, ap (λ (l : Layout). l.slots) c.layout.ensures.value)
+    rw c.layout.ensures.value (inside c.args.self.now c.args.slot c.args.seat.now c.requires)
 
 pub load-requires : goal.load-requires
 load-requires c =
@@ -34,9 +31,7 @@ load-requires c =
     let seat = c.args.seat.now in
     let polling = c.requires in
     let low = inside c.args.self.now c.args.slot seat polling in
-    let is : c.departures-place.result ≡ departures c.args.self.now.shape c.args.slot
-    = c.departures-place.ensures.place
-    ∙ ap (λ (l : Layout). place_of l (Departures c.args.slot)) c.layout.ensures.value in
+    let is = rw c.layout.ensures.value at c.departures-place.ensures.place in
     let n : ℕ = shared.table_id.slots in
     let at = record polling.desk { place = Searching polling.call polling.rows polling.poll } in
     let place = departures_at board c.args.slot low is ∙ ap (departures shared.key.shape) polling.slot_is in (

@@ -1,7 +1,5 @@
 use Rattle.std.proofs.Common.{ap, arith, subst, sym, ℕ, ◌<◌, ◌∙◌, ◌≡◌}
 use Rattle.nr_core.specs.Slots.{departures}
-use Rattle.nr_words.specs.declared.layout.Layout.{Layout}
-use Rattle.nr_words.specs.Places.{Departures, place_of}
 use Rattle.nr_core.specs.declared.places.Retired.{Retired}
 use Rattle.nr_core.specs.declared.shape.Shape.{Shape}
 use Rattle.nr_board.proofs.BoardPlaces.{departures_at, departures_in, stands}
@@ -17,8 +15,7 @@ near table entry seat probes = probes.room.inside probes.poll entry probes.here
 
 pub departures-place-requires-clause-has : goal.departures-place-requires-clause-has
 departures-place-requires-clause-has c =
-    let low = near c.args.self.now c.args.entry c.args.seat.now c.requires in
-    omega (arith, low, ap (λ (l : Layout). l.slots) c.layout.ensures.value)
+    rw c.layout.ensures.value (near c.args.self.now c.args.entry c.args.seat.now c.requires)
 
 pub load-requires : goal.load-requires
 load-requires c =
@@ -28,9 +25,7 @@ load-requires c =
     let probes = c.requires in
     let entry = c.args.entry in
     let low = near c.args.self.now entry seat probes in
-    let is : c.departures-place.result ≡ departures c.args.self.now.shape entry.slot
-    = c.departures-place.ensures.place
-    ∙ ap (λ (l : Layout). place_of l (Departures entry.slot)) c.layout.ensures.value in
+    let is = rw c.layout.ensures.value at c.departures-place.ensures.place in
     let n : ℕ = shared.table_id.slots in let place = departures_at board entry.slot low is in (
       ap (λ (t : Table). t.id) (probes.own ∙ sym c.self.view_is),
       departures_in board entry.slot low is,
@@ -42,9 +37,7 @@ load-requires c =
 pub returns-clause-tells : goal.returns-clause-tells
 returns-clause-tells c = let seat = c.args.seat.now in let probes = c.requires in let entry = c.args.entry in
     let size = ap (λ (t : Table). t.shape) probes.own in
-    let is : c.departures-place.result ≡ departures c.args.self.now.shape entry.slot
-    = c.departures-place.ensures.place
-    ∙ ap (λ (l : Layout). place_of l (Departures entry.slot)) c.layout.ensures.value in
+    let is = rw c.layout.ensures.value at c.departures-place.ensures.place in
     rw (sym size) (c.load.ensures.2 probes.desk probes.poll entry probes.role probes.idle
     (subst (λ (s : Shape). Room s probes.desk) (sym size) probes.room) probes.here
     (is ∙ ap (λ (s : Shape). departures s entry.slot) (sym size)))

@@ -36,5 +36,5 @@ returns-clause-flagged c =
     let second = c.in_default-pass.ensures.1 in
     let search = second.search.search in
     let gave = c.give_up.ensures.ends search.desk search.call search.rows search.role search.place in
-    rw (gave.heard ∙ second.heard) (rw (sym first.0)
+    rw (gave.heard ∙ second.polls.heard) (rw (sym first.0)
     c.scan_words.ensures.flagged)

@@ -1,8 +1,6 @@
 use Rattle.std.proofs.Common.{ap, arith, subst, sym, ℕ, ◌<◌, ◌∙◌, ◌≡◌}
 use Rattle.nr_core.proofs.ListPlaces.{inside}
 use Rattle.nr_core.specs.Slots.{departures}
-use Rattle.nr_words.specs.declared.layout.Layout.{Layout}
-use Rattle.nr_words.specs.Places.{Departures, place_of}
 use Rattle.nr_core.specs.declared.places.Retired.{Retired}
 use Rattle.nr_core.specs.declared.shape.Shape.{Shape}
 use Rattle.nr_board.proofs.BoardPlaces.{departures_at, departures_in, stands}
@@ -20,8 +18,7 @@ near table entry seat tries = tries.search.room.inside tries.poll entry tries.he
 
 pub departures-place-requires-clause-has : goal.departures-place-requires-clause-has
 departures-place-requires-clause-has c =
-    let low = near c.args.self.now c.args.entry c.args.seat.now c.requires in
-    omega (arith, low, ap (λ (l : Layout). l.slots) c.layout.ensures.value)
+    rw c.layout.ensures.value (near c.args.self.now c.args.entry c.args.seat.now c.requires)
 
 pub load-requires : goal.load-requires
 load-requires c =
@@ -31,9 +28,7 @@ load-requires c =
     let tries = c.requires in
     let entry = c.args.entry in
     let search = tries.search in let n : ℕ = shared.table_id.slots in let low = near c.args.self.now entry seat tries in
-    let is : c.departures-place.result ≡ departures c.args.self.now.shape entry.slot
-    = c.departures-place.ensures.place
-    ∙ ap (λ (l : Layout). place_of l (Departures entry.slot)) c.layout.ensures.value in (
+    let is = rw c.layout.ensures.value at c.departures-place.ensures.place in (
       ap (λ (t : Table). t.id) (search.own ∙ sym c.self.view_is),
       departures_in board entry.slot low is,
       rw (departures_at board entry.slot low is)
@@ -51,9 +46,7 @@ returns-clause-tries c =
     let entry = c.args.entry in
     let search = tries.search in
     let size = ap (λ (t : Table). t.shape) search.own in
-    let is : c.departures-place.result ≡ departures c.args.self.now.shape entry.slot
-    = c.departures-place.ensures.place
-    ∙ ap (λ (l : Layout). place_of l (Departures entry.slot)) c.layout.ensures.value in
+    let is = rw c.layout.ensures.value at c.departures-place.ensures.place in
     λ desk call rows poll is_desk is_at here. c.load.ensures.2 desk call rows poll is_desk is_at
     (subst (λ (s : Shape). Room s desk) (sym size)
     (subst (Room c.args.self.now.shape) (sym (ap desk_of search.role) ∙ ap desk_of is_desk) search.room))
