@@ -30,17 +30,12 @@ held_many retired = length-map retired held_poll
 pub passed_both : (passes : ℕ → Bool) (retired more : List Retired)
     → not_passed passes (retired ++ more) ≡ not_passed passes retired ++ not_passed passes more
 passed_both passes [] more = refl
-passed_both passes (entry ∷ retired) more = let rest = passed_both passes retired more in
-    by_cases (λ b. passes entry.slot ≡ b
-    → not_passed passes ((entry ∷ retired) ++ more) ≡ not_passed passes (entry ∷ retired) ++ not_passed passes more)
-    (passes entry.slot)
-    (λ _ gone. rw gone rest) (λ _ stays. rw stays (ap (λ (l : List Retired). entry ∷ l) rest)) refl
+passed_both passes (entry ∷ retired) more = grind (arith, passed_both passes retired more)
 
 pub none_passed : (passes : ℕ → Bool) (retired : List Retired) → ((slot : ℕ) → passes slot ≡ false)
     → not_passed passes retired ≡ retired
 none_passed passes [] none = refl
-none_passed passes (entry ∷ retired) none =
-    rw (none entry.slot) (ap (λ (l : List Retired). entry ∷ l) (none_passed passes retired none))
+none_passed passes (entry ∷ retired) none = grind (arith, none_passed passes retired none, none entry.slot)
 
 -- THOSE BEFORE A PLACE OF THE LIST
 

@@ -19,52 +19,26 @@ use Rattle.nr_board.proofs.Keepers.{at_behind, at_end, held_noted, held_within, 
 use Rattle.nr_board.proofs.PollNotes.{is_retired}
 use Rattle.nr_board.proofs.Tokens.{grows_both, grows_from, grows_none}
 use Rattle.nr_board.specs.Callers.{Grows, IsSound, token}
-use Rattle.nr_board.specs.HeldSlots.{FindsFree, HeldEach, HeldTo, InVain}
+use Rattle.nr_board.specs.HeldSlots.{FindsFree, HeldTo, InVain}
 use Rattle.nr_board.specs.Plays.{NotesTell}
 use Rattle.nr_board.specs.Polls.{HeldThen}
 use Rattle.nr_board.specs.SlotLists.{held_polls, not_passed}
 use Rattle.nr_board.specs.Views.{View}
 use Rattle.nr_board.specs.WriterSeats.{MapSeat}
 
-none_held : (readers : ℕ) → HeldEach readers [] []
-none_held readers = record {
-  held =
-      record {
-        many = refl;
-        slots = λ at entry there. absurd (some-ne-none entry (sym there));
-        different = λ reader. omega arith;
-      };
-  range = λ at note there. absurd (some-ne-none note (sym there));
-}
-
--- one slot more, held by a reader that holds none of the others
-module _ (readers : ℕ) (slots : List Retired) (notes : List Past) (entry : Retired) (note : Past)
-    (each : HeldEach readers slots notes) (on : note.slot ≡ Some entry.slot)
-    (low : 0 < note.reader) (high : note.reader ≤ readers)
-    (apart : (at : ℕ) (old : Past) → get_elem? notes at ≡ some old → old.reader ≢ note.reader) where
-  one_more : HeldEach readers (slots ++ entry ∷ []) (notes ++ note ∷ [])
-  one_more = let many = each.held.many in record {
-    held = record {
-      many = omega (arith, length-append notes (note ∷ []), length-append slots (entry ∷ []));
-      slots = λ at e there. ⊎_elim
-          (λ (old : get_elem? slots at ≡ some e).
-          let was = each.held.slots at e old in (was.0, at_left notes (note ∷ []) at was.0 was.1, was.2))
-          (λ (new : (at ≡ length slots) × (entry ≡ e)).
-          (note, at_end notes note at (omega (arith, new.0)), on ∙ ap (λ (x : Retired). Some x.slot) new.1))
-          (at_last slots entry e at there);
-      different = once_more notes note each.held.different apart;
-    };
-    range = λ at old there. ⊎_elim (λ (was : get_elem? notes at ≡ some old). each.range at old was)
-        (λ (new : (at ≡ length notes) × (note ≡ old)). subst (λ (n : Past). (0 < n.reader) × (n.reader ≤ readers)) new.1
-        (low, high))
-        (at_last notes note old at there);
-  }
-
--- before the first place none is polled
+-- before the first none is polled
 pub held_none : (view : View) → HeldTo [] view view
 held_none view = record {
   notes = [];
-  each = none_held view.shape.readers;
+  each = record {
+    held =
+        record {
+          many = refl;
+          slots = λ at entry there. absurd (some-ne-none entry (sym there));
+          different = λ reader. omega arith;
+        };
+    range = λ at note there. absurd (some-ne-none note (sym there));
+  };
   elsewhere = λ at note there. absurd (some-ne-none note (sym there));
   marks = λ j. with_scan view.marks (sym (append-nil view.marks.polls) j) (sym (append-nil view.marks.loads) j);
 }
@@ -131,11 +105,28 @@ module _ {slots : List Retired} {old mid : View} (so_far : HeldTo slots old mid)
           fresh at polled here (some_is polled.slot entry.slot (sym on ∙ as_here ∙ told.2))
 
       pub held_on : HeldTo (slots ++ entry ∷ []) old next
-      held_on = record {
+      held_on = let held = so_far.each.held in record {
         notes = notes ++ note ∷ [];
-        each =
-            one_more old.shape.readers slots notes entry note so_far.each told.2 told.3
-            (let high = told.4 in omega arith) another;
+        each = record {
+          held = record {
+            many = omega (arith, length-append notes (note ∷ []), length-append slots (entry ∷ []), held.many);
+            slots = λ at e there. ⊎_elim
+                (λ (was : get_elem? slots at ≡ some e).
+                let its = held.slots at e was in (its.0, at_left notes (note ∷ []) at its.0 its.1, its.2))
+                (λ (new : (at ≡ length slots) × (entry ≡ e)). (
+                  note,
+                  at_end notes note at (omega (arith, new.0, held.many)),
+                  told.2 ∙ ap (λ (x : Retired). Some x.slot) new.1,
+                ))
+                (at_last slots entry e at there);
+            different = once_more notes note held.different another;
+          };
+          range = λ at other there. ⊎_elim (so_far.each.range at other)
+              (λ (new : (at ≡ length notes) × (note ≡ other)).
+              subst (λ (n : Past). (0 < n.reader) × (n.reader ≤ old.shape.readers)) new.1
+              (told.3, (let high = told.4 in omega arith)))
+              (at_last notes note other at there);
+        };
         elsewhere = λ at other there. ⊎_elim (so_far.elsewhere at other)
             (λ (new : (at ≡ length notes) × (note ≡ other)). subst (NotedNowhereElse old.marks.polls) new.1
             (λ n poll is. told.5 n poll

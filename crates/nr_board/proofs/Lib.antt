@@ -52,4 +52,3 @@ pub mod WriterCalls
 pub mod Sweeps
 pub mod Reaps
 pub mod Waiting
-pub mod WordSearches

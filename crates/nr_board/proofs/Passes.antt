@@ -82,11 +82,15 @@ module
     search_now = so_far.search.search
 
     -- what the poll tells by its answer, whatever the desk is named
-    told_of : (desk : Desk) (call : WriterCall) (rows : List Row) → now.me.0.role ≡ Writer desk
-        → desk.place ≡ Searching call rows 0 → (answer : Bool) → same_count found entry.arrivals ≡ answer
-        → Tried desk call rows place found now.me.0 next.me.0
+    abbrev Tells : Desk → WriterCall → List Row → Bool → Type 0
+    Tells desk call rows answer =
+        Tried desk call rows place found now.me.0 next.me.0
         × (tried desk call rows place found ≡ cond {A = Desk} answer (taking_retired desk call rows place found) desk)
         × TryTells answer now.me.0.shape entry.slot now.me.0.marks next.me.0.marks
+
+    told_of : (desk : Desk) (call : WriterCall) (rows : List Row) → now.me.0.role ≡ Writer desk
+        → desk.place ≡ Searching call rows 0 → (answer : Bool) → same_count found entry.arrivals ≡ answer
+        → Tells desk call rows answer
     told_of desk call rows is is_at answer agree =
         let there : get_elem? desk.retired place ≡ some entry
         = ap (λ (d : Desk). get_elem? d.retired place)
@@ -102,18 +106,11 @@ module
               (λ j. (agrees j, sym entry_is j)) mine.marks,
         )
 
-    abbrev Own : Bool → Type 0
-    Own answer =
-        Tried search_now.desk search_now.call search_now.rows place found now.me.0 next.me.0
-        × (tried search_now.desk search_now.call search_now.rows place found
-        ≡ cond {A = Desk} answer (taking_retired search_now.desk search_now.call search_now.rows place found)
-        search_now.desk)
-        × TryTells answer now.me.0.shape entry.slot now.me.0.marks next.me.0.marks
-
-    own_told : (answer : Bool) → same_count found entry.arrivals ≡ answer → Own answer
+    own_told : (answer : Bool) → same_count found entry.arrivals ≡ answer
+        → Tells search_now.desk search_now.call search_now.rows answer
     own_told = told_of search_now.desk search_now.call search_now.rows search_now.role search_now.place
 
-    told : Own (same_count found entry.arrivals)
+    told : Tells search_now.desk search_now.call search_now.rows (same_count found entry.arrivals)
     told = own_told (same_count found entry.arrivals) refl
 
     one : Grows 1 [] (token now) (token next)

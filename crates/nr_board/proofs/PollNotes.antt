@@ -24,11 +24,11 @@ pub record StandsAt (retired : List Retired) (place : ℕ) (entry : Retired) : T
   pub is : get_elem? retired place ≡ some entry
 
 -- what a search finds at a place of the list, which it leaves as it was
-pub stands_at : {lists before : SlotLists} {place : ℕ} {entry : Retired} → lists ≡ before
-    → entry ≡ get_or lists.retired place no_retired → place < length before.retired
+pub stands_at : {lists before : SlotLists} {place end : ℕ} {entry : Retired} → lists ≡ before
+    → entry ≡ get_or lists.retired place no_retired → place < end → end ≡ length before.retired
     → StandsAt before.retired place entry
-stands_at {lists = lists} {before = before} {place = place} same is low = record {
-  is = at_get before.retired place low
+stands_at {lists = lists} {before = before} {place = place} same is low end_is = record {
+  is = at_get before.retired place (omega arith)
       ∙ ap some (ap (λ (s : SlotLists). get_or s.retired place no_retired) (sym same) ∙ sym is);
 }
 

@@ -32,7 +32,7 @@ use Rattle.nr_board.proofs.HeldPolls.{held_many, polled_at}
 use Rattle.nr_board.proofs.WriterSeats.{leads_seat}
 use Rattle.nr_board.specs.declared.publish.Taken.{Taken}
 use Rattle.nr_board.proofs.WholeScans.{retired_once}
-use Rattle.nr_board.proofs.WordSearches.{begun}
+use Rattle.nr_board.proofs.Searching.{begun}
 use Rattle.nr_core.specs.Story.{call_of, map_after}
 use Rattle.nr_core.specs.declared.calls.WriterCall.{WriterCall}
 use Rattle.nr_core.specs.declared.places.Place.TheVariants.{Idle, Searching}
@@ -51,39 +51,11 @@ use Rattle.nr_board.specs.Views.{View, desk_of}
 use Rattle.nr_board.specs.WholeScans.{KeepBack, SaidBehind, ScannedTo, is_flagged, misses}
 use Rattle.nr_board.specs.WriterSeats.{LacksSlot, MapSeat, Settles, TakesSlot}
 
-module _ (table : Table) (lists : SlotLists) (flags : List Bool) (before now : MapSeat)
-    (same : now.table_id ≡ before.table_id) (sized : (token before).table ≡ table) (some_words : 0 < table.announcers)
-    (scanned : ScannedTo lists.retired before.me.0 now.me.0 flags table.announcers) where
-  -- the scan adds nothing
-  pub scan_rests : Rests table.announcers (token before) (token now)
-  scan_rests = let rest = scanned.loaded.rest in record {
-    table = λ j. record { id = same j; shape = (rest j).shape; announcers = (rest j).announcers };
-    number = ap (λ (v : View). (token (record now { me = (v, now.me.1) })).number) rest;
-    seen = ap (λ (v : View). v.seen) rest;
-    mine = ap (λ (v : View). v.mine) rest;
-    steps_made = ap (λ (v : View). v.steps) rest;
-    pasts = ap (λ (v : View). v.pasts) rest;
-    loaded_ahead = ap (λ (v : View). v.loaded_ahead) rest;
-  }
-
-  base_is : scan_base table.announcers now.me.0.marks.polls ≡ now.me.0.marks.polls
-  base_is =
-      ap (λ (b : Bool). cond {A = List Past} b [] now.me.0.marks.polls) (ne_eqb table.announcers 0 (λ e. omega arith))
-
-  keep : KeepBack lists.retired flags table.announcers before.me.0.marks.loads now.me.0.marks.loads
-      now.me.0.marks.polls
-  keep = rw base_is at scanned.keep
-
 -- each slot has a flag or not
 flagged_or_not : (flags : List Bool) (retired : List Retired)
     → total (misses flags) retired + length (not_passed (is_flagged flags) retired) ≡ length retired
 flagged_or_not flags [] = refl
-flagged_or_not flags (entry ∷ retired) = let rest = flagged_or_not flags retired in
-    by_cases (λ b. is_flagged flags entry.slot ≡ b
-    → total (misses flags) (entry ∷ retired) + length (not_passed (is_flagged flags) (entry ∷ retired))
-    ≡ length (entry ∷ retired))
-    (is_flagged flags entry.slot)
-    (λ _ flagged. rw flagged (omega arith)) (λ _ free. rw free (omega arith)) refl
+flagged_or_not flags (entry ∷ retired) = grind (arith, flagged_or_not flags retired)
 
 -- notes of different readers, and behind them others of other readers
 both_apart : (base notes : List Past) → ((reader : ℕ) → total (λ (n : Past). only reader n.reader) base ≤ 1)
@@ -130,8 +102,8 @@ module _ {table : Table} {call : WriterCall} {rows : List Row} {lists : SlotList
       → TakesSlot table call rows before lists now after taken.slot taken.departures
   takes_first {taken = taken} takes =
       let free = takes.free in
-      takes_by takes.place (polls_to table.announcers before.me.0.heard lists.retired takes.place taken.slot) full takes.here
-      takes.slot takes.after_is (rw free.heard takes.all_heard, inl (free.heard, refl))
+      takes_by takes.place (polls_to table.announcers before.me.0.heard lists.retired takes.place taken.slot) full
+      takes.here takes.slot takes.after_is (rw free.heard takes.all_heard, inl (free.heard, refl))
       (omega (arith, free.few, readers_are), λ none. absurd (omega arith)) (takes.writes desk call rows begins refl)
       free.grows free.marks
 
@@ -168,8 +140,21 @@ module _ {table : Table} {call : WriterCall} {rows : List Row} {lists : SlotList
     polls_few : polls ≤ table.shape.readers
     polls_few = omega (arith, held_few first_pass.held, readers_are)
 
+    -- the scan adds nothing
     scanning : Rests table.announcers (token mid) (token swept)
-    scanning = scan_rests table lists scanned mid swept same sized some_words scan
+    scanning = let rest = scan.loaded.rest in record {
+      table = λ j. record { id = same j; shape = (rest j).shape; announcers = (rest j).announcers };
+      number = ap (λ (v : View). (token (record swept { me = (v, swept.me.1) })).number) rest;
+      seen = ap (λ (v : View). v.seen) rest;
+      mine = ap (λ (v : View). v.mine) rest;
+      steps_made = ap (λ (v : View). v.steps) rest;
+      pasts = ap (λ (v : View). v.pasts) rest;
+      loaded_ahead = ap (λ (v : View). v.loaded_ahead) rest;
+    }
+
+    now_keep : KeepBack lists.retired scanned table.announcers mid.me.0.marks.loads swept.me.0.marks.loads
+        swept.me.0.marks.polls
+    now_keep = rw (ne_eqb table.announcers 0 (λ e. omega arith)) at scan.keep
 
     up_to : Grows (polls + table.announcers) [] (token before) (token swept)
     up_to =
@@ -239,10 +224,6 @@ module _ {table : Table} {call : WriterCall} {rows : List Row} {lists : SlotList
 
       abbrev notes : List Past
       notes = second_pass.held.notes
-
-      abbrev now_keep : KeepBack lists.retired scanned table.announcers mid.me.0.marks.loads swept.me.0.marks.loads
-          swept.me.0.marks.polls
-      now_keep = keep table lists scanned mid swept same sized some_words scan
 
       -- the scan noted none of the readers that the second pass did
       differ : (at place : ℕ) (old note : Past) → get_elem? swept.me.0.marks.polls at ≡ some old
@@ -386,7 +367,8 @@ module _ {table : Table} {call : WriterCall} {rows : List Row} {lists : SlotList
                   swept.me.0.marks.polls notes
                   (λ at note there. let (slot, (waits, _), keeps) = now_keep.each at note there in
                   (slot, waits, inr (said_among slot note keeps.said)))
-                  (λ at note there. let (slot, waits, held) = note_kept unheard lists.retired second_pass at note there in
+                  (λ at note there.
+                  let (slot, waits, held) = note_kept unheard lists.retired second_pass at note there in
                   (slot, waits, inl (held_within (grows_from up_to) (grows_from one) held)));
               range = in_range;
             });

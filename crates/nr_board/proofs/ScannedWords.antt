@@ -188,32 +188,28 @@ module _ (desk : Desk) (before now next : View) (flags : List Bool) (own found :
   keeps_it = keeps_unheard desk own found now.heard
 
   -- a word that keeps no slot from being heard says none that is retired, or one that has a flag
-  kept_by_none : 0 < found → keeps_it ≡ false
-      → (retirements (found - 1) desk.retired ≡ 0) ⊎ (is_flagged flags (found - 1) ≡ true)
-  kept_by_none loud lets =
-      let tell = so_far.loaded.flags_tell (found - 1) in let is = before_is (found - 1) in
-      let few = unsaid_few (found - 1) words in let each = so_far.loaded.words.each in grind arith
+  kept_by_none : (slot : ℕ) → found ≡ suc slot → keeps_it ≡ false
+      → (retirements slot desk.retired ≡ 0) ⊎ (is_flagged flags slot ≡ true)
+  kept_by_none slot says lets =
+      let tell = so_far.loaded.flags_tell slot in let is = before_is slot in
+      let few = unsaid_few slot words in let each = so_far.loaded.words.each in
+      let mine : found - 1 ≡ slot = omega arith in grind arith
 
   kept_same : keeps_it ≡ false → Kept notes
   kept_same lets = record {
     many = keep.many ∙ dite (ℕ_discrete found 0) (λ e. rw (eq-eqb found 0 e) refl)
         (λ ne. rw (ne_eqb found 0 ne)
-        (sym (misses_same desk.retired flags (found - 1) (kept_by_none (omega arith) lets))));
+        (sym (misses_same desk.retired flags (found - 1) (kept_by_none (found - 1) (omega arith) lets))));
     apart = keep.apart;
     each = each_on;
     slots = λ slot flagged.
-        let was : FlaggedIn desk.retired flags slot
-        = ⊎_elim (λ (f : FlaggedIn desk.retired flags slot). f)
-        (λ (e : found ≡ suc slot).
-        let mine : found - 1 ≡ slot = omega arith in (
-          flagged.0,
-          ⊎_elim (λ (none : retirements (found - 1) desk.retired ≡ 0).
-              absurd (let waits = flagged.0 in let same = ap (λ (s : ℕ). retirements s desk.retired) mine in omega arith))
-              (λ (f : is_flagged flags (found - 1) ≡ true). subst (λ (s : ℕ). is_flagged flags s ≡ true) mine f)
-              (kept_by_none (omega arith) lets),
-        ))
+        let was : is_flagged flags slot ≡ true
+        = ⊎_elim (λ (f : FlaggedIn desk.retired flags slot). f.1)
+        (λ (e : found ≡ suc slot). ⊎_elim (λ (none : retirements slot desk.retired ≡ 0).
+        absurd (let waits = flagged.0 in omega arith)) (λ (f : is_flagged flags slot ≡ true). f)
+        (kept_by_none slot e lets))
         (flagged_before slot flagged) in
-        let (at, note, there, said) = keep.slots slot was in (at, note, there, said_on slot note said);
+        let (at, note, there, said) = keep.slots slot (flagged.0, was) in (at, note, there, said_on slot note said);
   }
 
   kept_one : keeps_it ≡ true → (note : Past) → note.reader ≡ suc own
@@ -286,10 +282,6 @@ pub record ClearedTo (retired : List Retired) (before flags : List Bool) (place 
   pub clear : (at : ℕ) (entry : Retired) → at < place → get_elem? retired at ≡ some entry
       → is_flagged flags entry.slot ≡ false
   pub others : OthersFlagged retired before → OthersFlagged retired flags
-
-pub cleared_none : (retired : List Retired) (flags : List Bool) → ClearedTo retired flags flags 0
-cleared_none retired flags =
-    record { wide = refl; clear = λ at entry low. absurd (omega arith); others = λ flagged. flagged }
 
 pub cleared_more : (retired : List Retired) (before flags : List Bool) (place : ℕ) (entry : Retired)
     → ClearedTo retired before flags place → get_elem? retired place ≡ some entry → entry.slot < length before

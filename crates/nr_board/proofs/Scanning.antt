@@ -24,7 +24,7 @@ use Rattle.nr_core.proofs.Counting.{named_inside, names_it}
 use Rattle.nr_board.proofs.Notes.{counts_on}
 use Rattle.nr_board.specs.Announcing.{Hears, lends, says_at}
 use Rattle.nr_board.specs.Rule.{Kept, marks_of, role_of}
-use Rattle.nr_board.specs.Scans.{has_scanned, heard_before, heard_from, heard_now}
+use Rattle.nr_board.specs.Scans.{has_scanned, heard_from, heard_now}
 use Rattle.nr_board.specs.Views.{View}
 use Rattle.nr_board.specs.WordLoads.{word_load}
 
@@ -32,10 +32,6 @@ use Rattle.nr_board.specs.WordLoads.{word_load}
 abbrev HeardMore : Desk → ℕ → ℕ → ℕ → ℕ → ℕ → Type 0
 HeardMore desk own found slot before after =
     (after ≤ before) ⊎ ((after ≡ suc own) × (own ≤ before) × (found ≢ suc slot) × (0 < retirements slot desk.retired))
-
--- what is heard anew was heard no less before
-heard_less : (own count : ℕ) → heard_before own count ≤ count
-heard_less own count = grind arith
 
 module _ (desk : Desk) (own found : ℕ) where
   heard_one : (slot count : ℕ) → HeardMore desk own found slot count (heard_now desk own found slot count)

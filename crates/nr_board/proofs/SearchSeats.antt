@@ -13,7 +13,8 @@ use Rattle.nr_core.specs.declared.places.Retired.{Retired}
 use Rattle.nr_core.specs.declared.roles.Desk.{Desk}
 use Rattle.nr_core.specs.declared.roles.Role.TheVariants.{Writer}
 use Rattle.nr_core.specs.declared.shape.Shape.{Shape}
-use Rattle.nr_board.proofs.PollNotes.{at_get}
+use Rattle.nr_core.proofs.ListPlaces.{inside}
+use Rattle.nr_board.proofs.PollNotes.{at_get, there_is}
 use Rattle.nr_board.proofs.Scanning.{says_apart}
 use Rattle.nr_board.proofs.SearchSteps.{gives_up_so, searches_so, tries_so}
 use Rattle.nr_core.proofs.WordPlaces.{same_departures}
@@ -45,10 +46,11 @@ module _ (shape : Shape) (slots id : ℕ) (me : Me (Unit {0}) View) (desk : Desk
       (searches_so shape slots id own me desk call rows is is_at within)
 
   pub has_tried_so : (poll : ℕ) (entry : Retired) → get_elem? desk.retired poll ≡ some entry
-      → poll < length desk.retired → entry ≡ retired_at desk poll → me.0.announcers ≤ get_or me.0.heard entry.slot 0
+      → me.0.announcers ≤ get_or me.0.heard entry.slot 0
       → Allows (Kept shape) slots id me (departures shape entry.slot) (λ word. word)
       (has_tried (step slots (departures shape entry.slot) 0 0 none) me)
-  has_tried_so poll entry here low entry_is heard =
+  has_tried_so poll entry here heard =
+      let entry_is = there_is desk.retired poll entry here in
       tells_also (Kept shape) slots id me (departures shape entry.slot) (λ word. word)
       (λ found after. Tried desk call rows poll found me.0 after.0)
       (has_tried (step slots (departures shape entry.slot) 0 0 none) me)
@@ -63,7 +65,8 @@ module _ (shape : Shape) (slots id : ℕ) (me : Me (Unit {0}) View) (desk : Desk
       let one_place : poll ≡ place = room.apart poll place entry (retired_at other place) there named slot_is in
       subst (λ (p : Desk × WriterCall × List Row × ℕ). Tried p.0 p.1 p.2 p.3 found me.0 after.0)
       (λ j. (desks j, calls j, all_rows j, one_place j)) told)
-      (rw entry_is (tries_so shape slots id me desk call rows poll is is_at low
+      (rw entry_is (tries_so shape slots id me desk call rows poll is is_at
+      (inside desk.retired poll entry here)
       (subst (λ (e : Retired). me.0.announcers ≤ get_or me.0.heard e.slot 0) entry_is heard)))
 
   pub has_given_up_so : (key : ℕ) → key < shape.keys

@@ -1,6 +1,6 @@
 -- The search for a slot: each retired one is polled in order, until one is not held.
 use Rattle.std.proofs.Common.{◌≡◌, ℕ, ◌+◌, ◌-◌, ◌<◌, ◌≤◌, List, [], ◌∷◌, ◌++◌, length-append, Bool, true, false, cond}
-use Rattle.std.proofs.Common.{length, nat_eq, refl, sym, ap, ◌∙◌, subst, arith, append-nil, ◌⊎◌, inl}
+use Rattle.std.proofs.Common.{length, nat_eq, refl, sym, ap, ◌∙◌, subst, arith, append-nil, ◌⊎◌, inl, inr}
 use Rattle.std.proofs.Common.{get_or, take, take_all}
 use Rattle.nr_core.proofs.ListPlaces.{inside}
 use Rattle.std.proofs.lemmas.Bool.{eq-eqb, lt-ltb, le-ltb, ne_eqb}
@@ -34,6 +34,7 @@ use Rattle.nr_board.proofs.WordLoads.{no_loads}
 use Rattle.nr_board.specs.Callers.{Grows, Table, token}
 use Rattle.nr_board.specs.HeldSlots.{FindsFree, InVain}
 use Rattle.nr_board.specs.Plays.{Lacks}
+use Rattle.nr_board.specs.SearchSeats.{SearchesIn}
 use Rattle.nr_core.specs.SlotLists.{SlotLists, all_taken}
 use Rattle.nr_board.specs.SlotLists.{desk_with, heard_all, held_polls, not_passed, polls_to}
 use Rattle.nr_core.proofs.ExactPlace.{noted_more, noted_none}
@@ -239,8 +240,10 @@ lacks_slot {table = table} {call = call} {rows = rows} {lists = lists} {before =
           (sym so_far.slots));
       noted = λ _. so_far.noted;
       kept = record {
-        slots = λ slot waits. let t = slot_kept none_by lists.retired each slot waits refl in rw polls_are (t.0, t.1, t.2, inl t.3);
-        keepers = λ at note there. let t = note_kept none_by lists.retired each at note (rw polls_are at there) in (t.0, t.1, inl t.2);
+        slots = λ slot waits. let t = slot_kept none_by lists.retired each slot waits refl in
+            rw polls_are (t.0, t.1, t.2, inl t.3);
+        keepers = λ at note there. let t = note_kept none_by lists.retired each at note (rw polls_are at there) in
+            (t.0, t.1, inl t.2);
         range = so_far.noted.range;
       };
       marks =
@@ -288,3 +291,37 @@ takes_fresh table call rows lists after seat slot settles low slot_is after_is =
       grows = grows_none settles.knows;
       marks = no_loads seat.me.0.marks seat.me.0.marks.polls;
     }
+
+-- WHERE READERS HAVE WORDS
+
+module _ (table : Table) (call : WriterCall) (rows : List Row) (lists : SlotLists) (before : MapSeat)
+    (settles : Settles table call rows lists before) (full : lists.slots ≤ lists.fresh)
+    (some_words : 0 < table.announcers) where
+  -- where no slot is retired the look was the call's last step
+  pub lacks_none : lists.retired ≡ [] → LacksSlot table call before lists before lists (all_taken lists)
+  lacks_none none =
+      lacks_slot (searched_none settles full) (inr none) (sym (ap length none))
+
+  module _ (waits : 0 < length lists.retired) where
+    abbrev desk : Desk
+    desk = desk_with lists (Searching call rows 0)
+
+    pub begun : WritesAt table desk before
+    begun =
+        searching_at (searched_none settles full) waits
+
+    pub searches_in : SearchesIn table lists before
+    searches_in =
+        record {
+          search = record {
+            own = begun.own;
+            desk = desk;
+            role = begun.role;
+            room = begun.room;
+            call = call;
+            rows = rows;
+            place = refl;
+          };
+          retired = refl;
+          slots = settles.slots;
+        }

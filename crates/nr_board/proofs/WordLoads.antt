@@ -113,7 +113,8 @@ unfoldable pub words_begin : (retired : List Retired) (slots : ℕ) (loads : Lis
 words_begin retired slots loads heard =
     record { words = []; each = refl; loads_are = sym (append-nil loads); tell = λ later. absurd (omega arith) }
 
-unfoldable pub words_more : (desk : Desk) (own found slots : ℕ) (before now next : List LoggedLoad) (heard after : List ℕ)
+unfoldable pub words_more : (desk : Desk) (own found slots : ℕ) (before now next : List LoggedLoad)
+    (heard after : List ℕ)
     → WordsSoFar own desk.retired slots before now heard
     → next ≡ now ++ word_load own found ∷ [] → after ≡ heard_from desk own found heard 0 slots
     → WordsSoFar (own + 1) desk.retired slots before next after

@@ -15,16 +15,14 @@ pub is_flagged-requires : goal.is_flagged-requires
 is_flagged-requires c =
     let so_far = c.loop-place.invariant in
     let here
-    = stands_at so_far.0 c.retired_at-entry.ensures
-    (omega (arith, c.loop-place-test.true, c.retired_len-place-end.ensures)) in
+    = stands_at so_far.0 c.retired_at-entry.ensures c.loop-place-test.true c.retired_len-place-end.ensures in
     omega (arith, entry_inside so_far.1 here, c.requires.flagged.wide)
 
 pub try_slot-departures-requires : goal.try_slot-departures-requires
 try_slot-departures-requires c =
     let so_far = c.loop-place.invariant in
     let here
-    = stands_at so_far.0 c.retired_at-entry.ensures
-    (omega (arith, c.loop-place-test.true, c.retired_len-place-end.ensures)) in
+    = stands_at so_far.0 c.retired_at-entry.ensures c.loop-place-test.true c.retired_len-place-end.ensures in
     let flag = flag_is c.args.self.now _ _ c.args.flags.now c.requires.flagged _ in
     tries_at so_far.1 here (sym flag ∙ sym c.is_flagged.ensures ∙ c.if-not-is_flagged.true)
 
@@ -33,8 +31,7 @@ returns-then-same_count c =
     let place : ℕ = c.loop-place.place in
     let so_far = c.loop-place.invariant in
     let here
-    = stands_at so_far.0 c.retired_at-entry.ensures
-    (omega (arith, c.loop-place-test.true, c.retired_len-place-end.ensures)) in
+    = stands_at so_far.0 c.retired_at-entry.ensures c.loop-place-test.true c.retired_len-place-end.ensures in
     let tried = c.try_slot-departures in
     let flag = flag_is c.args.self.now _ _ c.args.flags.now c.requires.flagged _ in
     pass_takes so_far.1 here (sym flag ∙ sym c.is_flagged.ensures ∙ c.if-not-is_flagged.true) tried.result
@@ -46,8 +43,7 @@ loop-place-preserved c =
     let so_far = c.loop-place.invariant in
     let flag = flag_is c.args.self.now _ _ c.args.flags.now c.requires.flagged _ in
     let here
-    = stands_at so_far.0 c.retired_at-entry.ensures
-    (omega (arith, c.loop-place-test.true, c.retired_len-place-end.ensures)) in (
+    = stands_at so_far.0 c.retired_at-entry.ensures c.loop-place-test.true c.retired_len-place-end.ensures in (
       so_far.0,
       elim c.if-not-is_flagged.branch [
         | then-not-is_flagged+else-same_count w ↦ let tried = w.try_slot-departures in

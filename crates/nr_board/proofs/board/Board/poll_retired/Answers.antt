@@ -37,13 +37,9 @@ returns-then-same_count-2 g c =
     let place : ℕ = c.loop-place.place in
     let so_far = c.loop-place.invariant in
     let here
-    = stands_at so_far.0 c.retired_at-entry.ensures
-    (omega (
-      arith,
-      c.loop-place-test.true,
-      c.retired_len-place-end.ensures,
-      ap (λ (s : SlotLists). length s.retired) (c.put_back.ensures ∙ sym c.in-Some.ensures),
-    )) in
+    = stands_at so_far.0 c.retired_at-entry.ensures c.loop-place-test.true
+    (c.retired_len-place-end.ensures
+    ∙ ap (λ (s : SlotLists). length s.retired) (c.put_back.ensures ∙ sym c.in-Some.ensures)) in
     rw (c.take_retired.ensures ∙ ap (λ (s : SlotLists). record s { retired = remove s.retired place }) so_far.0)
     (takes_at so_far.1 here c.poll-departures.ensures c.requires.counted c.requires.none_fresh
     (sym c.same_count-in-loop-place.ensures ∙ c.if-same_count-2.true))
@@ -52,13 +48,9 @@ pub loop-place-preserved : goal.loop-place-preserved
 loop-place-preserved g c =
     let so_far = c.loop-place.invariant in
     let here
-    = stands_at so_far.0 c.retired_at-entry.ensures
-    (omega (
-      arith,
-      c.loop-place-test.true,
-      c.retired_len-place-end.ensures,
-      ap (λ (s : SlotLists). length s.retired) (c.put_back.ensures ∙ sym c.in-Some.ensures),
-    )) in (
+    = stands_at so_far.0 c.retired_at-entry.ensures c.loop-place-test.true
+    (c.retired_len-place-end.ensures
+    ∙ ap (λ (s : SlotLists). length s.retired) (c.put_back.ensures ∙ sym c.in-Some.ensures)) in (
       so_far.0,
       searched_more so_far.1 here c.poll-departures.ensures
           (sym c.same_count-in-loop-place.ensures ∙ c.if-same_count-2.false),

@@ -1,4 +1,4 @@
-use Rattle.std.proofs.Common.{arith, subst, ℕ, ◌∙◌, ◌≡◌}
+use Rattle.std.proofs.Common.{arith, subst, sym, Bool, List, ℕ, ◌+◌, ◌∙◌, ◌≡◌}
 use Rattle.nr_board.proofs.WholeScans.{SearchScans, scan_begins, scan_goes, search_flagged}
 use Rattle.nr_board.proofs.board.Board.scan_words.Goals as goal
 
@@ -9,10 +9,13 @@ loop-own-init c =
     (none.wide ∙ c.requires.flagged.wide) (none.others c.requires.flagged.others)
 
 pub loop-own-preserved : goal.loop-own-preserved
-loop-own-preserved c = let told = c.scan_on-word.ensures in
-    rw c.announce.ensures.flags
+loop-own-preserved c = let told = c.scan_on-word.ensures in let own : ℕ = c.loop-own.own in
+    subst
+    (λ (flags : List Bool). SearchScans c.args.self.now c.args.lists.now c.args.seat.now c.scan_on-word.new.seat flags
+    (own + 1))
+    (sym c.announce.ensures.flags)
     (scan_goes c.args.self.now c.args.lists.now c.args.seat.now c.loop-own.seat c.scan_on-word.new.seat
-    c.loop-own.flags c.loop-own.own c.scan_on-word.result c.loop-own.invariant told.own told.hears)
+    c.loop-own.flags own c.scan_on-word.result c.loop-own.invariant told.own told.hears)
 
 pub returns-clause-flagged : goal.returns-clause-flagged
 returns-clause-flagged c = let own : ℕ = c.loop-own.own in let map = c.args.self.now in

@@ -20,15 +20,15 @@ loop-place-init c = swept_first c.args.lists.now c.args.seat.now c.passed-first.
 pub is_reaped-requires : goal.is_reaped-requires
 is_reaped-requires c =
     let here
-    = stands_at {before = c.args.lists.now} refl c.retired_at-entry.ensures
-    (omega (arith, c.loop-place-test.true, c.retired_len-place-end.ensures)) in
+    = stands_at {before = c.args.lists.now} refl c.retired_at-entry.ensures c.loop-place-test.true
+    c.retired_len-place-end.ensures in
     retired_near c.requires.rests here
 
 pub is_flagged-requires : goal.is_flagged-requires
 is_flagged-requires c =
     let here
-    = stands_at {before = c.args.lists.now} refl c.retired_at-entry.ensures
-    (omega (arith, c.loop-place-test.true, c.retired_len-place-end.ensures)) in
+    = stands_at {before = c.args.lists.now} refl c.retired_at-entry.ensures c.loop-place-test.true
+    c.retired_len-place-end.ensures in
     record {
       wide = λ some_words. omega (
         arith,
@@ -50,8 +50,8 @@ told_of {map = map} {lists = lists} {flags = flags} {seat = seat} rests flagged 
 pub probe-departures-requires : goal.probe-departures-requires
 probe-departures-requires c =
     let here
-    = stands_at {before = c.args.lists.now} refl c.retired_at-entry.ensures
-    (omega (arith, c.loop-place-test.true, c.retired_len-place-end.ensures)) in
+    = stands_at {before = c.args.lists.now} refl c.retired_at-entry.ensures c.loop-place-test.true
+    c.retired_len-place-end.ensures in
     let far
     = told_of c.requires.rests c.requires.flagged _ c.is_flagged.result c.is_flagged.ensures.none
     c.is_flagged.ensures.flag in
@@ -60,8 +60,8 @@ probe-departures-requires c =
 pub returns-then-same_count-clause-sweeps : goal.returns-then-same_count-clause-sweeps
 returns-then-same_count-clause-sweeps c =
     let here
-    = stands_at {before = c.args.lists.now} refl c.retired_at-entry.ensures
-    (omega (arith, c.loop-place-test.true, c.retired_len-place-end.ensures)) in
+    = stands_at {before = c.args.lists.now} refl c.retired_at-entry.ensures c.loop-place-test.true
+    c.retired_len-place-end.ensures in
     let probed = c.probe-departures in
     let far
     = told_of c.requires.rests c.requires.flagged _ c.is_flagged.result
@@ -75,8 +75,8 @@ loop-place-preserved c =
     let so_far = c.loop-place.invariant in
     let rests = c.requires.rests in
     let here
-    = stands_at {before = c.args.lists.now} refl c.retired_at-entry.ensures
-    (omega (arith, c.loop-place-test.true, c.retired_len-place-end.ensures)) in
+    = stands_at {before = c.args.lists.now} refl c.retired_at-entry.ensures c.loop-place-test.true
+    c.retired_len-place-end.ensures in
     elim c.if-not-is_reaped.branch [
       | then-not-is_reaped+then-not-is_flagged+else-same_count w ↦ let probed = w.probe-departures in
           let far

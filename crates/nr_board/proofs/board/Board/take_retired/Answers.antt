@@ -1,6 +1,6 @@
 use Rattle.std.proofs.Common.{List, [], arith, length, refl, ◌<◌, ◌∷◌, ◌≡◌}
 use Rattle.nr_core.specs.declared.places.Retired.{Retired}
-use Rattle.nr_board.proofs.WordSearches.{lacks_none, searches_in}
+use Rattle.nr_board.proofs.Searching.{lacks_none, searches_in}
 use Rattle.nr_board.proofs.board.Board.take_retired.Goals as goal
 
 pub search_retired-requires-clause-search : goal.search_retired-requires-clause-search

@@ -34,8 +34,6 @@ load-requires c =
       rw (departures_at board entry.slot low is)
           (has_tried_so shared.key.shape n seat.id seat.me search.desk search.call search.rows search.role search.place
           (ap (λ (t : Table). t.shape) search.own ∙ sym board.key_is) tries.poll entry tries.here
-          (inside search.desk.retired tries.poll entry tries.here)
-          (there_is search.desk.retired tries.poll entry tries.here)
           (rw (ap (λ (t : Table). t.announcers) search.own) tries.heard)),
     )
 
