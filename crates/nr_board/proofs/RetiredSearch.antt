@@ -1,7 +1,7 @@
 -- The two passes of a search and the scan between them, put together.
 use Rattle.std.proofs.lemmas.Bool.{false≢true}
-use Rattle.std.proofs.Common.{◌≡◌, ◌≢◌, ℕ, zero, suc, ◌+◌, ◌<◌, ◌≤◌, ◌⊎◌, ⊎_elim, inl, inr, List, [], ◌∷◌, ◌++◌, Bool}
-use Rattle.std.proofs.Common.{true, cond, ne_eqb, append_assoc, length, length-append, take, take_all, refl, sym, ap}
+use Rattle.std.proofs.Common.{◌≡◌, ◌≢◌, ℕ, zero, suc, ◌+◌, ◌<◌, ◌≤◌, ⊎_elim, inl, inr, List, [], ◌∷◌, ◌++◌, Bool}
+use Rattle.std.proofs.Common.{ne_eqb, append_assoc, length, length-append, take_all, refl, sym, ap}
 use Rattle.std.proofs.Common.{◌∙◌, subst, arith}
 use Rattle.std.specs.Prelude.{None, Some}
 use mathlib.Core.Logic.{dite}
@@ -43,7 +43,6 @@ use Rattle.nr_model.specs.declared.rows.Row.{Row}
 use Rattle.nr_core.specs.declared.roles.Desk.{Desk}
 use Rattle.nr_core.specs.declared.shape.Shape.{Shape}
 use Rattle.nr_model.specs.Maps.{filled_count, reply_to}
-use Rattle.nr_board.specs.SearchPlays.{scan_base}
 use Rattle.nr_board.specs.SearchSeats.{Ends}
 use Rattle.nr_board.proofs.WordLoads.{words_many, words_told}
 use Rattle.nr_board.specs.WordLoads.{WordsTell}

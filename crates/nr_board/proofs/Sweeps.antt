@@ -38,7 +38,7 @@ use Rattle.nr_board.specs.Plays.{Room}
 use Rattle.nr_board.specs.Reaping.{ProbesAt, ProbesTo, SomeWait, SweepsFor, SweptTo, is_passed, ready_before, waiting}
 use Rattle.nr_board.specs.Rule.{Kept, marks_of, role_of}
 use Rattle.nr_board.specs.SlotLists.{desk_with, held_polls, not_passed}
-use Rattle.nr_board.specs.Views.{View, caller_number, desk_of}
+use Rattle.nr_board.specs.Views.{View, caller_number}
 use Rattle.nr_board.specs.WriterSeats.{MapSeat, RestsAt}
 use Rattle.nr_board.specs.declared.reaping.Sweep.TheVariants as sweep
 

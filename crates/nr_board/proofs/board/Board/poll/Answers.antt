@@ -1,4 +1,4 @@
-use Rattle.std.proofs.Common.{ap, arith, get_or, refl, subst, sym, ℕ, ◌<◌, ◌≤◌, ◌∙◌, ◌≡◌}
+use Rattle.std.proofs.Common.{ap, arith, get_or, refl, subst, sym, ℕ, ◌<◌, ◌≤◌, ◌∙◌}
 use Rattle.nr_core.specs.Slots.{departures}
 use Rattle.nr_core.specs.States.{retired_at}
 use Rattle.nr_core.specs.declared.places.Place.TheVariants.{Searching}
