@@ -32,11 +32,6 @@ use Rattle.nr_core.specs.declared.roles.Role.TheVariants.{Writer}
 use Rattle.nr_model.specs.declared.rows.Row.{Row}
 use Rattle.nr_words.specs.KeyWords.{same_count}
 
--- a desk over these lists has what they have
-there_too : (desk : Desk) (lists : SlotLists) (place : ℕ) (entry : Retired) → desk.retired ≡ lists.retired
-    → get_elem? lists.retired place ≡ some entry → get_elem? desk.retired place ≡ some entry
-there_too desk lists place entry listed here = ap (λ (l : List Retired). get_elem? l place) listed ∙ here
-
 pub passed_none : {table : Table} {lists : SlotLists} {seat : MapSeat} → SearchesIn table lists seat
     → IsSound (token seat) → PassedTo table lists seat seat 0
 passed_none {table = table} {lists = lists} {seat = seat} searches knows = record {
@@ -53,7 +48,7 @@ module
   passes = is_unheard table.announcers before.me.0.heard
 
   here_now : get_elem? so_far.search.search.desk.retired place ≡ some entry
-  here_now = there_too so_far.search.search.desk lists place entry so_far.search.retired here.is
+  here_now = rw so_far.search.retired here.is
 
   pub entry_inside : entry.slot < table.shape.slots
   entry_inside = so_far.search.search.room.inside place entry here_now
@@ -139,10 +134,7 @@ module
               rw (up_to_polled passes here free)
               (vain_on so_far.polls entry one told.0.heard now.me.0.shape
               (ap (λ (t : Table). t.shape.readers) so_far.polls.grows.table)
-              (polled_before passes here (λ one other a b at_a at_b. search_now.room.apart one other a b
-              (there_too search_now.desk lists one a so_far.search.retired at_a)
-              (there_too search_now.desk lists other b so_far.search.retired at_b)))
-              told.0.notes noted);
+              (polled_before passes here (rw so_far.search.retired at search_now.room.apart)) told.0.notes noted);
         }
 
     pub pass_takes : same_count found entry.arrivals ≡ true → {taken : Taken} → taken.slot ≡ entry.slot

@@ -184,8 +184,7 @@ module _ {table : Table} {lists : SlotLists} {before : MapSeat} (rests : RestsAt
             rw (sym set_is) shown,
             rw (sym set_is) (subst (λ (t : Table). IsRowSet t.shape.rows (set_in now.me.0.marks slot))
                 (sym rests.writes.own) row_set),
-            token_after table lists before last steps_now marks_now made.last.me.0.heard rests (last_same ∙ same)
-                last_view,
+            token_after last rests (last_same ∙ same) last_view,
           ) in
           record {
             held = held;
@@ -206,8 +205,8 @@ module _ {table : Table} {lists : SlotLists} {before : MapSeat} (rests : RestsAt
       pub reaped_rests : (after : SlotLists) → after ≡ record lists { reaped = set lists.reaped slot true }
           → RestsAt table after last
       reaped_rests after is =
-          rests_after table lists before last steps_now marks_now made.last.me.0.heard rests (last_same ∙ same)
-          last_view after (is ∙ (λ j. record lists { reaped = set (rests.reaped j) slot true }))
+          rests_after last rests (last_same ∙ same) last_view after
+          (is ∙ (λ j. record lists { reaped = set (rests.reaped j) slot true }))
 
   -- every set that waits is kept back
   module _ (now : MapSeat) (sweeps : SweepsHeard lists before now sweep.Held)
@@ -240,7 +239,7 @@ module _ {table : Table} {lists : SlotLists} {before : MapSeat} (rests : RestsAt
           subst (λ (l : List Retired). 0 < length l) waiting_is some_wait,
           subst (λ (p : ℕ × List Retired). HeldEach p.0 p.1 notes)
               (λ j. ((made_held.view j).shape.readers, ready_then made_held j)) each,
-          token_after table lists before now _ _ made_held.last.me.0.heard rests same
+          token_after now rests same
               (view_kept ∙ (λ j. record before.me.0 {
                 steps = before.me.0.steps + plus j;
                 marks = with_scan before.me.0.marks (before.me.0.marks.polls ++ (made_held.earlier ++ notes))
@@ -252,5 +251,4 @@ module _ {table : Table} {lists : SlotLists} {before : MapSeat} (rests : RestsAt
 
     pub kept_rests : RestsAt table lists now
     kept_rests =
-        rests_after table lists before now _ _ made_held.last.me.0.heard rests same view_kept lists
-        (λ j. record lists { reaped = rests.reaped j })
+        rests_after now rests same view_kept lists (λ j. record lists { reaped = rests.reaped j })

@@ -155,21 +155,16 @@ gives_up_so shape slots id me desk call rows key near is is_at = let view = me.0
     }))
 
 -- one of the tokens is that reader, or none is
-reader_there : (views : List View) (own : ℕ)
-    → ((id : ℕ) × (view : View) × (get_elem? views id ≡ some view) × (is_by (suc own) view.role ≡ true))
-    ⊎ HasNoReader own views
+abbrev HasReader : ℕ → List View → Type 0
+HasReader own views =
+    (id : ℕ) × (view : View) × (get_elem? views id ≡ some view) × (is_by (suc own) view.role ≡ true)
+
+reader_there : (views : List View) (own : ℕ) → HasReader own views ⊎ HasNoReader own views
 reader_there [] own = inr (λ id view at. absurd (some-ne-none view (sym at)))
 reader_there (view ∷ views) own =
-    by_cases
-    (λ (_ : Bool).
-    ((id : ℕ) × (other : View) × (get_elem? (view ∷ views) id ≡ some other)
-    × (is_by (suc own) other.role ≡ true))
-    ⊎ HasNoReader own (view ∷ views))
-    (is_by (suc own) view.role)
+    by_cases (λ (_ : Bool). HasReader own (view ∷ views) ⊎ HasNoReader own (view ∷ views)) (is_by (suc own) view.role)
     (λ his. inl (0, view, refl, his))
-    (λ other. ⊎_elim
-    (λ (t : (id : ℕ) × (v : View) × (get_elem? views id ≡ some v) × (is_by (suc own) v.role ≡ true)). inl
-    (suc t.0, t.1, t.2, t.3))
+    (λ other. ⊎_elim (λ (t : HasReader own views). inl (suc t.0, t.1, t.2, t.3))
     (λ (none_there : HasNoReader own views). inr (each other none_there)) (reader_there views own))
   where
     each : is_by (suc own) view.role ≡ false → HasNoReader own views → HasNoReader own (view ∷ views)
@@ -279,8 +274,7 @@ module _ (shape : Shape) (id own : ℕ) (view : View) (desk : Desk) (call : Writ
   searched =
       by_cases (λ b. keeps_unheard desk own found view.heard ≡ b → Result) (keeps_unheard desk own found view.heard)
       (λ _ keeps_it. let loud : 0 < found = ltb-true 0 found (first_of (nat_lt 0 found) _ keeps_it) in ⊎_elim
-      (λ (t : (other : ℕ) × (viewed : View) × (get_elem? state.views other ≡ some viewed)
-      × (is_by (suc own) viewed.role ≡ true)).
+      (λ (t : HasReader own state.views).
       let r = reader_role t.1.role own t.3 in
       searched_with (base ++ past (suc own) r.0 t.1.marks ∷ [])
       (notes_marked role_of marks_of shape id view view.pasts desk call rows is_at is base begins loads 0 kept.counted

@@ -236,8 +236,8 @@ swept_first lists seat (suc count) known =
 -- THE SEAT
 
 -- the seat rests with its slots after steps that leave all but its marks and what it heard
-module _ (table : Table) (lists : SlotLists) (before after : MapSeat) (steps : ℕ) (marks : Marks) (heard : List ℕ)
-    (rests : RestsAt table lists before)
+module _ {table : Table} {lists : SlotLists} {before : MapSeat} (after : MapSeat) {steps : ℕ} {marks : Marks}
+    {heard : List ℕ} (rests : RestsAt table lists before)
     (own : after.table_id ≡ before.table_id)
     (view : after.me.0 ≡ record before.me.0 { steps = steps; marks = marks; heard = heard }) where
   pub token_after : token after ≡ record (token before) { steps = steps; marks = marks; heard = heard }
