@@ -37,11 +37,7 @@ pub is_retired : (retired : List Retired) (at : ℕ) (entry : Retired) → get_e
     → 0 < retirements entry.slot retired
 is_retired [] at entry there = absurd (cc)
 is_retired (x ∷ retired) zero entry there =
-    let same = only-same entry.slot in
     let one : only entry.slot x.slot ≡ 1
-    = ap (λ (e : Retired). only entry.slot e.slot) (some_is x entry there) ∙ same in
+    = ap (λ (e : Retired). only entry.slot e.slot) (some-injective x entry there) ∙ only-same entry.slot in
     omega arith
-  where
-    some_is : (a b : Retired) → some a ≡ some b → a ≡ b
-    some_is a b e = some-injective a b e
 is_retired (x ∷ retired) (suc at) entry there = omega (arith, is_retired retired at entry there)

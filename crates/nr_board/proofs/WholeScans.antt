@@ -199,10 +199,11 @@ scan_begins table lists seat flags search none wide others = let goes = goes_non
   };
 }
 
-pub scan_goes : (table : Table) (lists : SlotLists) (before now next : MapSeat) (flags : List Bool) (own found : ℕ)
-    → SearchScans table lists before now flags own → next.table_id ≡ now.table_id
+pub scan_goes : {table : Table} {lists : SlotLists} {before now next : MapSeat} {flags : List Bool} {own : ℕ}
+    (found : ℕ) → SearchScans table lists before now flags own → next.table_id ≡ now.table_id
     → SearchesOn own found now.me.0 next.me.0 → SearchScans table lists before next (announced found flags) (own + 1)
-scan_goes table lists before now next flags own found so_far same tells =
+scan_goes {table = table} {before = before} {now = now} {next = next} {flags = flags} {own = own} found so_far same
+    tells =
     let search = so_far.search.search in
     let desk = search.desk in
     let told = tells desk search.call search.rows search.role search.place in

@@ -2,6 +2,7 @@
 use Rattle.std.proofs.Common.{◌≡◌, ◌≢◌, ℕ, suc, zero, ◌+◌, ◌<◌, ◌≤◌, List, [], ◌∷◌, ◌++◌, cond, length, get_or}
 use Rattle.std.proofs.Common.{nat_eq, refl, sym, ap, ◌∙◌, arith, append_assoc, append-nil, length-append}
 use Rattle.std.proofs.lemmas.Bool.{lt-ltb, ltb-false, ltb-true}
+use Rattle.std.proofs.lemmas.List.{nil_from_length}
 use Rattle.std.specs.Prelude.{nat_lt, ◌||◌}
 use mathlib.Core.Logic.{dite}
 use native.Mathlib.Decide.{ℕ_discrete}
@@ -133,15 +134,11 @@ words_more desk own found slots before now next heard after so_far loads told = 
     place : own ≡ 0 + length so_far.words
     place = let each = so_far.each in omega arith
 
-    none : (words : List ℕ) → length words ≡ 0 → words ≡ []
-    none [] e = refl
-    none (word ∷ words) e = absurd (omega arith)
-
     begins : own ≡ 0
         → heard_from desk own found heard 0 slots ≡ heard_by desk.retired (so_far.words ++ found ∷ []) 0 slots
     begins e = ap (λ (n : ℕ). heard_from desk n found heard 0 slots) e ∙ first_from desk found heard 0 slots
         ∙ ap (λ (l : List ℕ). heard_by desk.retired (l ++ found ∷ []) 0 slots)
-        (sym (none so_far.words (so_far.each ∙ e)))
+        (sym (nil_from_length so_far.words (so_far.each ∙ e)))
 
     goes_on : own ≢ 0
         → heard_from desk own found heard 0 slots ≡ heard_by desk.retired (so_far.words ++ found ∷ []) 0 slots

@@ -14,8 +14,7 @@ loop-own-preserved c = let told = c.scan_on-word.ensures in let own : ℕ = c.lo
     (λ (flags : List Bool). SearchScans c.args.self.now c.args.lists.now c.args.seat.now c.scan_on-word.new.seat flags
     (own + 1))
     (sym c.announce.ensures.flags)
-    (scan_goes c.args.self.now c.args.lists.now c.args.seat.now c.loop-own.seat c.scan_on-word.new.seat
-    c.loop-own.flags own c.scan_on-word.result c.loop-own.invariant told.own told.hears)
+    (scan_goes c.scan_on-word.result c.loop-own.invariant told.own told.hears)
 
 pub returns-clause-flagged : goal.returns-clause-flagged
 returns-clause-flagged c = let own : ℕ = c.loop-own.own in let map = c.args.self.now in

@@ -1,5 +1,5 @@
-use Rattle.std.proofs.Common.{List, [], arith, length, refl, ◌<◌, ◌∷◌, ◌≡◌}
-use Rattle.nr_core.specs.declared.places.Retired.{Retired}
+use Rattle.std.proofs.Common.{arith, length, ◌<◌, ◌≡◌}
+use Rattle.std.proofs.lemmas.List.{nil_from_length}
 use Rattle.nr_board.proofs.Searching.{lacks_none, searches_in}
 use Rattle.nr_board.proofs.board.Board.take_retired.Goals as goal
 
@@ -25,8 +25,4 @@ returns-then-retired_len-eq0-clause-takes g c =
     let none : length lists.retired ≡ 0 = omega (arith, c.retired_len.ensures, c.if-retired_len-eq0.true) in
     rw c.counts.ensures
     (lacks_none map g.G.BegunCall.call c.args.rows.now lists seat c.requires.settles c.requires.none_fresh some_words
-    (empty lists.retired none))
-  where
-    empty : (l : List Retired) → length l ≡ 0 → l ≡ []
-    empty [] e = refl
-    empty (entry ∷ l) e = absurd (omega arith)
+    (nil_from_length lists.retired none))
