@@ -1,12 +1,10 @@
 -- The search for a slot: each retired one is polled in order, until one is not held.
 use Rattle.std.proofs.Common.{◌≡◌, ℕ, ◌+◌, ◌-◌, ◌<◌, ◌≤◌, List, [], ◌∷◌, ◌++◌, length-append, Bool, true, false, cond}
-use Rattle.std.proofs.Common.{length, nat_eq, refl, sym, ap, ◌∙◌, subst, arith, append-nil, ◌⊎◌, inl, inr}
+use Rattle.std.proofs.Common.{length, refl, sym, ap, ◌∙◌, subst, arith, append-nil, ◌⊎◌, inl, inr}
 use Rattle.std.proofs.Common.{get_or, take, take_all}
 use Rattle.nr_core.proofs.ListPlaces.{inside}
-use Rattle.std.proofs.lemmas.Bool.{eq-eqb, lt-ltb, le-ltb, ne_eqb}
+use Rattle.std.proofs.lemmas.Bool.{lt-ltb, le-ltb}
 use Rattle.std.specs.Prelude.{nat_lt, remove}
-use mathlib.Core.Logic.{dite}
-use native.Mathlib.Decide.{ℕ_discrete}
 use Rattle.nr_words.specs.KeyWords.{same_count}
 use Rattle.nr_core.proofs.Choices.{on_test}
 use Rattle.nr_core.specs.States.{retired_at}
@@ -81,11 +79,7 @@ module _ (shape : Shape) (desk : Desk) (call : WriterCall) (rows : List Row) whe
 
   -- a call that finds no slot that was never taken begins to poll, or has none
   settled_swept : shape.slots ≤ desk.fresh → settled shape desk call rows ≡ swept shape desk call rows 0
-  settled_swept full =
-      rw (le-ltb desk.fresh shape.slots full)
-      (dite (ℕ_discrete (length desk.retired) 0)
-      (λ none. rw (eq-eqb (length desk.retired) 0 none) (sym (swept_all 0 (omega arith))))
-      (λ some_there. rw (ne_eqb (length desk.retired) 0 some_there) (sym (swept_more 0 (omega arith)))))
+  settled_swept full = grind arith
 
 -- the search begins
 pub searched_none : {table : Table} {call : WriterCall} {rows : List Row} {lists : SlotLists} {seat : MapSeat}
@@ -263,10 +257,7 @@ takes_fresh table call rows lists after seat slot settles low slot_is after_is =
     let desk = desk_with lists Idle in
     let size = settles.slots in
     let outcome : settled shape desk call rows ≡ (taking_fresh shape desk call rows, Going)
-    = ap (λ (b : Bool). cond {A = Desk × Step} b (taking_fresh shape desk call rows, Going)
-    (cond {A = Desk × Step} (nat_eq (length desk.retired) 0) (moved_to desk Idle, no_slot shape desk)
-    (moved_to desk (Searching call rows 0), Going)))
-    (lt-ltb lists.fresh shape.slots (omega arith)) in
+    = rw (lt-ltb lists.fresh shape.slots (omega arith)) refl in
     record {
       steps = 0;
       loads = [];
