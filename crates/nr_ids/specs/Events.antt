@@ -28,12 +28,10 @@ pub data Event : Type 0 where
 
 -- the number of the caller whose step it was; the clerk's is 0
 abbrev pub maker : Event → ℕ
-maker (named way id) = 0
-maker (unnamed way) = 0
-maker (cleared group) = 0
 maker (claimed by id) = by
 maker (looked by) = by
 maker (touched by touch) = by
+maker _ = 0
 
 -- a caller's own steps
 abbrev pub own : ℕ → List Event → List Event
@@ -49,21 +47,15 @@ abbrev pub name_of : List Event → ℕ → ℕ
 name_of [] way = 0
 name_of (named other id ∷ log) way = cond (other == way) id (name_of log way)
 name_of (unnamed other ∷ log) way = cond (other == way) 0 (name_of log way)
-name_of (cleared group ∷ log) way = name_of log way
-name_of (claimed by id ∷ log) way = name_of log way
-name_of (looked by ∷ log) way = name_of log way
-name_of (touched by touch ∷ log) way = name_of log way
+name_of (_ ∷ log) way = name_of log way
 
 -- the turn of a group: how often it was claimed and cleared, so odd while a claim is open
 abbrev pub turn_of : Plan → List Event → ℕ → ℕ
 turn_of plan [] group = 0
-turn_of plan (named way id ∷ log) group = turn_of plan log group
-turn_of plan (unnamed way ∷ log) group = turn_of plan log group
 turn_of plan (cleared other ∷ log) group = cond (other == group) (turn_of plan log group + 1) (turn_of plan log group)
 turn_of plan (claimed by id ∷ log) group =
     cond (group_of plan id == group) (turn_of plan log group + 1) (turn_of plan log group)
-turn_of plan (looked by ∷ log) group = turn_of plan log group
-turn_of plan (touched by touch ∷ log) group = turn_of plan log group
+turn_of plan (_ ∷ log) group = turn_of plan log group
 
 -- a way's bit among its group's marks
 abbrev pub mark_bit : ℕ → ℕ
@@ -72,35 +64,24 @@ mark_bit way = 2 ^ (way % 8)
 -- the marks of a group after these events: a use bit of each of its eight ways, and above them the place at which the
 -- next choice begins
 abbrev pub marks_after : Touch → ℕ → ℕ → ℕ
-marks_after (loaded place) group marks = marks
 marks_after (marked way) group marks = cond (group_of_way way == group) (bit_or marks (mark_bit way)) marks
 marks_after (turned other bits) group marks = cond (other == group) (bit_xor marks bits) marks
-marks_after (hinted other hints) group marks = marks
+marks_after _ group marks = marks
 
 abbrev pub marks_of : List Event → ℕ → ℕ
 marks_of [] group = 0
-marks_of (named way id ∷ log) group = marks_of log group
-marks_of (unnamed way ∷ log) group = marks_of log group
-marks_of (cleared other ∷ log) group = marks_of log group
-marks_of (claimed by id ∷ log) group = marks_of log group
-marks_of (looked by ∷ log) group = marks_of log group
 marks_of (touched by touch ∷ log) group = marks_after touch group (marks_of log group)
+marks_of (_ ∷ log) group = marks_of log group
 
 -- the hints of a group after these events: a byte for each of its eight ways, the first way's the lowest
 abbrev pub hints_after : Touch → ℕ → ℕ → ℕ
-hints_after (loaded place) group hints = hints
-hints_after (marked way) group hints = hints
-hints_after (turned other bits) group hints = hints
 hints_after (hinted other written) group hints = cond (other == group) written hints
+hints_after _ group hints = hints
 
 abbrev pub hints_of : List Event → ℕ → ℕ
 hints_of [] group = 0
-hints_of (named way id ∷ log) group = hints_of log group
-hints_of (unnamed way ∷ log) group = hints_of log group
-hints_of (cleared other ∷ log) group = hints_of log group
-hints_of (claimed by id ∷ log) group = hints_of log group
-hints_of (looked by ∷ log) group = hints_of log group
 hints_of (touched by touch ∷ log) group = hints_after touch group (hints_of log group)
+hints_of (_ ∷ log) group = hints_of log group
 
 -- the hint at a place in a group's hints, and a way's; 0 is none
 abbrev pub hint_at : ℕ → ℕ → ℕ

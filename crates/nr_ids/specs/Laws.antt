@@ -4,8 +4,8 @@ use Rattle.std.specs.Prelude.{Option, Some, bit_xor, length}
 use Rattle.std.specs.Int.{bit_at}
 use Rattle.nr_ids.specs.declared.plan.Plan.{Plan}
 use Rattle.nr_ids.specs.Groups.{IsPlan, IsWayOf, group_of, group_of_way, hint_of, second_of, ways}
-use Rattle.nr_ids.specs.Events.{Event, Touch, named, unnamed, cleared, claimed, looked, touched, hinted, loaded, marked}
-use Rattle.nr_ids.specs.Events.{turned, hint_in, marks_of, name_of, turn_of, IsLegal}
+use Rattle.nr_ids.specs.Events.{Event, Touch, named, unnamed, cleared, claimed, touched, marked, turned, hint_in}
+use Rattle.nr_ids.specs.Events.{marks_of, name_of, turn_of, IsLegal}
 use Rattle.nr_ids.specs.Answers.{LooksUp}
 use Rattle.nr_ids.specs.Marks.{ChoosesPlace}
 use Rattle.nr_ids.specs.Rule.{BeginsWith}
@@ -52,22 +52,14 @@ OneNaming =
 -- how often a group was claimed, and how often a claim of it was closed
 abbrev pub claims : Plan → ℕ → List Event → ℕ
 claims plan group [] = 0
-claims plan group (named way id ∷ log) = claims plan group log
-claims plan group (unnamed way ∷ log) = claims plan group log
-claims plan group (cleared other ∷ log) = claims plan group log
 claims plan group (claimed by id ∷ log) =
     cond (group_of plan id == group) (claims plan group log + 1) (claims plan group log)
-claims plan group (looked by ∷ log) = claims plan group log
-claims plan group (touched by touch ∷ log) = claims plan group log
+claims plan group (_ ∷ log) = claims plan group log
 
 abbrev pub closings : ℕ → List Event → ℕ
 closings group [] = 0
-closings group (named way id ∷ log) = closings group log
-closings group (unnamed way ∷ log) = closings group log
 closings group (cleared other ∷ log) = cond (other == group) (closings group log + 1) (closings group log)
-closings group (claimed by id ∷ log) = closings group log
-closings group (looked by ∷ log) = closings group log
-closings group (touched by touch ∷ log) = closings group log
+closings group (_ ∷ log) = closings group log
 
 -- a turn counts both
 abbrev pub TurnCounts : Type 0
@@ -96,20 +88,15 @@ FindsWhatItHeard =
 
 -- 1 where a way was marked, and its mark wasn't taken since, else 0
 abbrev pub use_after : Touch → ℕ → ℕ → ℕ
-use_after (loaded place) way was = was
 use_after (marked other) way was = cond (other == way) 1 was
 use_after (turned group bits) way was =
     cond (group == group_of_way way) (cond (bit_at bits (way % 8) == 1) 0 was) was
-use_after (hinted group hints) way was = was
+use_after _ way was = was
 
 abbrev pub use_of : List Event → ℕ → ℕ
 use_of [] way = 0
-use_of (named other id ∷ log) way = use_of log way
-use_of (unnamed other ∷ log) way = use_of log way
-use_of (cleared group ∷ log) way = use_of log way
-use_of (claimed by id ∷ log) way = use_of log way
-use_of (looked by ∷ log) way = use_of log way
 use_of (touched by touch ∷ log) way = use_after touch way (use_of log way)
+use_of (_ ∷ log) way = use_of log way
 
 -- that is what its bit among the marks tells
 abbrev pub MarksTell : Type 0
