@@ -11,7 +11,7 @@ use Rattle.nr_ids.specs.declared.admissions.Refused.TheVariants as refused
 use Rattle.nr_ids.specs.declared.admissions.Room.{Room}
 use Rattle.nr_ids.specs.Groups.{IsWayOf, group_of_way, hint_of, way_at, way_in, ways}
 use Rattle.nr_ids.specs.Events.{Event, cleared, hinted, looked, named, own, touched, unnamed, hint_at, hint_in}
-use Rattle.nr_ids.specs.Events.{hints_of, looks, name_of, turn_of, IsLegal, IsOpen, KeepsHints, MayName}
+use Rattle.nr_ids.specs.Events.{hints_of, looks, name_of, turn_of, IsOpen, KeepsHints, MayName}
 use Rattle.nr_ids.specs.Looking.{HasRoom, HintsNames, Missed, PassedByClerk, Rooms, Scans, SeesRoom, SetsHint}
 use Rattle.nr_ids.specs.Looking.{group_for, second_for, way_for}
 use Rattle.nr_ids.specs.Answers.{Admits}
@@ -35,12 +35,8 @@ clerk_so {new = new} sits clerk names = (subst (λ (d : Opened). Sits d new) (sy
 -- what the clerk knows of hints: those that it knew, after its own steps
 pub clerk_hints : {old new : Token} {acts : List Event} (group : ℕ) → old.number ≡ 0 → Grows acts old new
     → hints_of new.seen group ≡ hints_of (acts ++ old.seen) group
-clerk_hints {old = old} group clerk grows =
-    ap (λ (l : List Event). hints_of l group) grows.seen
-    ∙ exact_hints old.directory.plan grows.rest old.seen group
-    (subst (IsLegal old.directory.plan) grows.seen grows.legal)
-    ∙ ap (λ (k : ℕ). hints_of (own k grows.rest ++ old.seen) group) (sym clerk)
-    ∙ ap (λ (l : List Event). hints_of (l ++ old.seen) group) grows.acts_are
+clerk_hints {old = old} group clerk grows = rw (grows.seen, ← grows.acts_are, clerk)
+    (exact_hints old.directory.plan grows.rest old.seen group (rw grows.seen at grows.legal))
 
 pub looks_hints : (count by : ℕ) (seen : List Event) (group : ℕ)
     → hints_of (looks count by ++ seen) group ≡ hints_of seen group
@@ -228,7 +224,7 @@ module _ {id way : ℕ} {old first second third fourth : Token} (it : Hinting id
   hinting = touched third.number (hinted (group_of_way way) it.hint.hints) ∷ looked third.number ∷ []
 
   all : Grows (hinting ++ looks (scan.0 + 2) first.number) first fourth
-  all = grows_on first third fourth (looks (scan.0 + 2) first.number) hinting searched it.hint.grows
+  all = grows_on first third fourth _ hinting searched it.hint.grows
 
   first_clerk : first.number ≡ 0
   first_clerk = it.turn.number ∙ it.clerk
@@ -272,12 +268,11 @@ module _ {id way : ℕ} {old first second third fourth : Token} (it : Hinting id
   module _ {fifth last : Token} {group : ℕ} (names : Grows (named way id ∷ []) fourth fifth)
       (group_is : group ≡ group_for old id) (clears : Grows (cleared group ∷ []) fifth last) where
     ends : Grows (cleared (group_for old id) ∷ named way id ∷ []) fourth last
-    ends = grows_on fourth fifth last (named way id ∷ []) (cleared (group_for old id) ∷ []) names
-        (subst (λ (of : ℕ). Grows (cleared of ∷ []) fifth last) group_is clears)
+    ends = grows_on fourth fifth last _ _ names (rw group_is at clears)
 
     pub whole : Grows
         ((cleared (group_for old id) ∷ named way id ∷ []) ++ hinting ++ looks (scan.0 + 2) first.number) first last
-    whole = grows_on first fourth last _ (cleared (group_for old id) ∷ named way id ∷ []) all ends
+    whole = grows_on first fourth last _ _ all ends
 
     name_after : (other : ℕ) → name_of last.seen other ≡ cond (way == other) id (name_of fourth.seen other)
     name_after other = clerk_names _ _ _ other (all.number ∙ first_clerk) ends
@@ -292,9 +287,9 @@ module _ {id way : ℕ} {old first second third fourth : Token} (it : Hinting id
     names_way : Grows (closing (group_for old id) old.number) second last
     names_way =
         subst (λ (by : ℕ). Grows (closing (group_for old id) by) second last) (scan.1.number ∙ it.turn.number)
-        (grows_on second fourth last _ (cleared (group_for old id) ∷ named way id ∷ [])
+        (grows_on second fourth last _ _
         (grows_next (λ by. touched by (hinted (group_of_way way) it.hint.hints) ∷ looked by ∷ []) second third fourth
-        (looks 2 second.number) it.room.grows it.hint.grows) ends)
+        _ it.room.grows it.hint.grows) ends)
 
     pub admission : Admits id old last (Ok way)
     admission = (
@@ -332,8 +327,8 @@ module _ {way : ℕ} {old mid new : Token} (clerk : old.number ≡ 0) (takes : G
     (hint : SetsHint way 0 mid new) where
   pub unhinted : Grows
       (touched old.number (hinted (group_of_way way) hint.hints) ∷ looked old.number ∷ unnamed way ∷ []) old new
-  unhinted = grows_next (λ by. touched by (hinted (group_of_way way) hint.hints) ∷ looked by ∷ []) old mid new
-      (unnamed way ∷ []) takes hint.grows
+  unhinted =
+      grows_next (λ by. touched by (hinted (group_of_way way) hint.hints) ∷ looked by ∷ []) old mid new _ takes hint.grows
 
   pub unnamed_of_names : HintsNames old → HintsNames new
   unnamed_of_names were = of_names old new unhinted.directory were (λ other. dite (ℕ_discrete way other)
@@ -361,10 +356,7 @@ admits_by id way old new admits =
           Grows
           (cleared (group_for old id) ∷ named way id ∷ touched old.number (hinted (group_of_way way) names.hints) ∷ l)
           old new)
-          (looks_both looked.0 3 old.number)
-          (grows_on old names.scanned new (looks looked.0 old.number)
-          (cleared (group_for old id) ∷ named way id ∷ touched old.number (hinted (group_of_way way) names.hints)
-          ∷ looks 3 old.number) looked.1 names.grows),
+          (looks_both looked.0 3 old.number) (grows_on old names.scanned new _ _ looked.1 names.grows),
     )
 
 -- and a refusal is a few looks

@@ -1,10 +1,10 @@
 -- Loads of groups ahead, one by one.
-use Rattle.std.proofs.Common.{◌≡◌, ℕ, List, [], ◌∷◌, ◌++◌, refl, ap, subst, sym}
+use Rattle.std.proofs.Common.{◌≡◌, ℕ, List, [], ◌∷◌, ◌++◌, refl, ap}
 use Rattle.nr_ids.specs.declared.plan.Plan.{Plan}
 use Rattle.nr_ids.specs.Events.{Event}
 use Rattle.nr_ids.specs.Groups.{group_of}
 use Rattle.nr_ids.specs.Marks.{LoadsGroup, LoadsGroups, group_loads, loads_of_group}
-use Rattle.nr_ids.specs.Tokens.{Token, Grows}
+use Rattle.nr_ids.specs.Tokens.{Token}
 use Rattle.nr_ids.proofs.Calls.{grows_on}
 
 group_loads-snoc : (plan : Plan) (by : ℕ) (ids : List ℕ) (id : ℕ)
@@ -18,8 +18,6 @@ pub one_more_loaded : (ids : List ℕ) (id : ℕ) (old mid new : Token) → Load
 one_more_loaded ids id old mid new loads more =
     let plan = old.directory.plan in
     let by = old.number in
-    subst (λ (l : List Event). Grows l old new) (sym (group_loads-snoc plan by ids id))
-    (grows_on old mid new (group_loads plan by ids) (loads_of_group plan by (group_of plan id)) loads
-    (subst (λ (p : Plan). Grows (loads_of_group p by (group_of p id)) mid new) (ap (λ d. d.plan) loads.directory)
-    (subst (λ (n : ℕ). Grows (loads_of_group mid.directory.plan n (group_of mid.directory.plan id)) mid new)
-    loads.number more)))
+    rw (group_loads-snoc plan by ids id)
+    (grows_on old mid new _ (loads_of_group plan by (group_of plan id)) loads
+    (rw (← loads.number, ← loads.directory) more))

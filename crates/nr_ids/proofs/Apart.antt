@@ -1,8 +1,6 @@
 -- An id's two groups.
-use Rattle.std.proofs.Common.{◌≡◌, ◌≢◌, ℕ, ◌+◌, ◌-◌, ◌*◌, ◌/◌, ◌%◌, ◌^◌, ◌<◌, ◌≤◌, sym, ◌∙◌, subst, arith}
+use Rattle.std.proofs.Common.{◌≡◌, ◌≢◌, ℕ, ◌+◌, ◌-◌, ◌*◌, ◌/◌, ◌%◌, ◌^◌, ◌<◌, subst, arith}
 use Rattle.std.proofs.Math.Nat.{div-lt_iff_lt-mul, mod-lt, mod-eq_of_lt, mod-eq-sub-mod, mul-lt-mul_of_pos_right}
-use mathlib.Core.Logic.{dite}
-use native.Mathlib.Decide.{dec_le}
 use Rattle.nr_ids.specs.declared.plan.Plan.{Plan}
 use Rattle.nr_ids.specs.Groups.{group_of, mixed, second_of}
 use Rattle.nr_ids.specs.Laws.{SecondIsAnother}
@@ -16,18 +14,7 @@ scaled low count below some =
 
 -- so much further on, and on from the first behind the last
 further : (at more count : ℕ) → at < count → more + 1 < count → (at + 1 + more) % count ≢ at
-further at more count inside few same = dite (dec_le count (at + 1 + more))
-    (λ (behind : count ≤ at + 1 + more).
-    let on : (at + 1 + more) % count ≡ (at + 1 + more - count) % count = mod-eq-sub-mod behind in
-    let low : at + 1 + more - count < count = omega arith in
-    let rest : (at + 1 + more - count) % count ≡ at + 1 + more - count = mod-eq_of_lt low in
-    let back : at + 1 + more - count ≡ at = sym rest ∙ sym on ∙ same in
-    absurd (omega arith))
-    (λ ahead.
-    let low : at + 1 + more < count = omega arith in
-    let stays : (at + 1 + more) % count ≡ at + 1 + more = mod-eq_of_lt low in
-    let back : at + 1 + more ≡ at = sym stays ∙ same in
-    absurd (omega arith))
+further at more count inside few same = grind (arith, mod-eq-sub-mod, mod-eq_of_lt)
 
 mixed_low : (key id : ℕ) → mixed key id < 2 ^ 64
 unfolding mixed

@@ -1,9 +1,10 @@
 -- The bytes of a word of hints, and the places that are picked out of them.
 use Rattle.std.proofs.Common.{◌+◌, ◌*◌, ◌≡◌, ℕ, zero, suc, ◌-◌, ◌/◌, ◌%◌, ◌^◌, ◌<◌, ◌≤◌, ◌==◌, cond, Bool, false, map}
-use Rattle.std.proofs.Common.{sym, ap, ◌∙◌, arith, bit_and, min}
+use Rattle.std.proofs.Common.{sym, ap, ◌∙◌, arith, bit_and}
 use mathlib.Core.Logic.{dite}
-use native.Mathlib.Decide.{dec_le, ℕ_discrete}
+use native.Mathlib.Decide.{dec_le}
 use lib.Lanes.{mask_l}
+use Rattle.std.proofs.lemmas.Bool.Decides.{nat_tests}
 use Rattle.std.specs.Int.{bit_at, leading_zeros, to_le_bytes, w64}
 use Rattle.std.proofs.lemmas.Nat.{div-mul-add}
 use lib.Count.{leading_top}
@@ -13,7 +14,7 @@ use Rattle.std.proofs.lemmas.Simd.{bit_mask_l}
 use Rattle.std.proofs.lemmas.Nat.Bits.{bit_at-suc, bit_at_above, bit_at_and, bit_at_lowest}
 use Rattle.nr_ids.specs.Events.{hint_at}
 use Rattle.nr_ids.specs.Looking.{IsFirst}
-use Rattle.nr_ids.proofs.Logs.{cond_same, cond_else}
+use Rattle.nr_ids.proofs.Logs.{cond_else}
 
 abbrev pub matches : ℕ → ℕ → ℕ
 matches hints hint = mask_l (map (λ (x : ℕ). x == hint) (to_le_bytes w64 hints))
@@ -25,12 +26,10 @@ bit_here hints hint place low =
     ∙ ap (λ (b : Bool). cond b 1 0) (get_or-map (λ (x : ℕ). x == hint) (to_le_bytes w64 hints) place 0 false low)
 
 pub fits_so : (hints hint place : ℕ) → place < 8 → bit_at (matches hints hint) place ≡ 1 → hint_at hints place ≡ hint
-fits_so hints hint place low on = dite (ℕ_discrete (hint_at hints place) hint)
-    (λ (e : hint_at hints place ≡ hint). e)
-    (λ ne. absurd (cc (sym on ∙ bit_here hints hint place low ∙ cond_else 1 0 (hint_at hints place) hint ne)))
+fits_so hints hint place low on = grind (arith, nat_tests, bit_here hints hint place low)
 
 pub is_fitting : (hints hint place : ℕ) → place < 8 → hint_at hints place ≡ hint → bit_at (matches hints hint) place ≡ 1
-is_fitting hints hint place low e = bit_here hints hint place low ∙ cond_same 1 0 (hint_at hints place) hint e
+is_fitting hints hint place low e = grind (arith, nat_tests, bit_here hints hint place low)
 
 -- the first of some places is one of eight
 pub first_inside : (bits place : ℕ) → bits < 2 ^ 8 → bit_at bits place ≡ 1 → place < 8
@@ -48,10 +47,7 @@ lowest_cleared zero bits zero some is =
 lowest_cleared zero bits (suc place) some is =
     let odd : bits % 2 ≡ 1 = sym (bit_at_lowest bits) ∙ is.0 in
     let half : (bits - 1) / 2 ≡ bits / 2 = omega (arith, odd, some) in
-    let same : bit_at (bits - 1) (suc place) ≡ bit_at bits (suc place)
-    = bit_at-suc (bits - 1) place ∙ ap (λ (n : ℕ). bit_at n place) half ∙ sym (bit_at-suc bits place) in
-    bit_at_and bits (bits - 1) (suc place) ∙ omega (arith, same)
-    ∙ sym (cond_else 0 (bit_at bits (suc place)) (suc place) 0 (λ e. absurd (omega (arith, e))))
+    grind (arith, nat_tests, bit_at-suc, bit_at_and)
 lowest_cleared (suc first) bits zero some is =
     let none : bit_at bits 0 ≡ 0 = is.1 0 (omega arith) in
     bit_at_and bits (bits - 1) 0 ∙ omega (arith, none) ∙ sym none
@@ -64,18 +60,7 @@ lowest_cleared (suc first) bits (suc place) some is =
       sym (bit_at-suc bits first) ∙ is.0,
       λ other near. sym (bit_at-suc bits other) ∙ is.1 (suc other) (omega (arith, near)),
     ) in
-    bit_at_and bits (bits - 1) (suc place)
-    ∙ ap (λ (n : ℕ). min n (bit_at (bits - 1) (suc place))) (bit_at-suc bits place)
-    ∙ ap (min (bit_at (bits / 2) place)) (bit_at-suc (bits - 1) place ∙ ap (λ (n : ℕ). bit_at n place) half)
-    ∙ sym (bit_at_and (bits / 2) (bits / 2 - 1) place) ∙ on
-    ∙ ap (cond (place == first) 0) (sym (bit_at-suc bits place))
-    ∙ same_test (bit_at bits (suc place))
-  where
-    same_test : (n : ℕ) → cond (place == first) 0 n ≡ cond (suc place == suc first) 0 n
-    same_test n = dite (ℕ_discrete place first)
-        (λ (e : place ≡ first). cond_same 0 n place first e ∙ sym (cond_same 0 n (suc place) (suc first) (ap suc e)))
-        (λ ne. cond_else 0 n place first ne
-        ∙ sym (cond_else 0 n (suc place) (suc first) (λ e. ne (omega (arith, e)))))
+    grind (arith, nat_tests, bit_at-suc, bit_at_and)
 
 -- the highest bit is set
 pub highest_set : (bits : ℕ) → 0 < bits → bits < 2 ^ 64 → bit_at bits (63 - leading_zeros w64 bits) ≡ 1

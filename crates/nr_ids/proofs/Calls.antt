@@ -5,12 +5,12 @@ use Rattle.std.proofs.Common.{false}
 use mathlib.Core.Logic.{dite}
 use native.Mathlib.Decide.{dec_le, ℕ_discrete}
 use Rattle.nr_ids.specs.declared.plan.Plan.{Plan}
-use Rattle.nr_ids.specs.Groups.{IsWayOf, group_at, group_of, group_of_way, places, second_of, way_at, way_in}
-use Rattle.nr_ids.specs.Events.{Event, looked, touched, own, looks, name_of, turn_of, turned, mark_bit, IsLegal}
+use Rattle.nr_ids.specs.Groups.{IsWayOf, group_of, group_of_way, places, second_of, way_at, way_in}
+use Rattle.nr_ids.specs.Events.{Event, looked, own, looks, name_of, turn_of, mark_bit, IsLegal}
 use Rattle.nr_ids.specs.Events.{IsAbsent, IsOpen, IsClosed}
 use Rattle.nr_ids.specs.Looking.{WasAbsent, LackedName, PassedByClerk, group_for, way_for}
 use Rattle.nr_ids.specs.Answers.{WasOpen}
-use Rattle.nr_ids.specs.Marks.{ChoosesWay, LoadsMarks, TakesMark, TurnsMarks, load_of_marks}
+use Rattle.nr_ids.specs.Marks.{ChoosesWay, LoadsMarks, TakesMark, TurnsMarks}
 use Rattle.nr_ids.specs.Tokens.{Opened, Token, Grows, Newest, Within}
 use Rattle.nr_ids.proofs.Logs.{ClearsNothing, exact_names, looks_names, named_inside, name_step, new_name, no_name}
 use Rattle.nr_ids.proofs.Logs.{own_append, quiet_turn, same_name, was_odd}
@@ -189,9 +189,7 @@ absent_within id real old new legal last lacked = let plan = old.directory.plan 
 pub clerk_names : (old : Token) (acts : List Event) (new : Token) (way : ℕ) → old.number ≡ 0 → Grows acts old new
     → name_of new.seen way ≡ name_of (acts ++ old.seen) way
 clerk_names old acts new way clerk grows =
-    ap (λ (l : List Event). name_of l way) grows.seen ∙ exact_names grows.rest old.seen way
-    ∙ ap (λ (k : ℕ). name_of (own k grows.rest ++ old.seen) way) (sym clerk)
-    ∙ ap (λ (l : List Event). name_of (l ++ old.seen) way) grows.acts_are
+    rw (grows.seen, ← grows.acts_are, clerk) (exact_names grows.rest old.seen way)
 
 pub clerk_looks : (old : Token) (count by : ℕ) (new : Token) (way : ℕ) → old.number ≡ 0 → Grows (looks count by) old new
     → name_of new.seen way ≡ name_of old.seen way
@@ -202,12 +200,9 @@ clerk_looks old count by new way clerk grows =
 pub clerk_turn : (old : Token) (acts : List Event) (new : Token) (group : ℕ) → old.number ≡ 0 → Grows acts old new
     → ClearsNothing acts → IsOpen old.directory.plan old.seen group
     → turn_of old.directory.plan new.seen group ≡ turn_of old.directory.plan old.seen group
-clerk_turn old acts new group clerk grows quiet odd =
-    let plan = old.directory.plan in
-    ap (λ (l : List Event). turn_of plan l group) grows.seen
-    ∙ quiet_turn plan grows.rest old.seen group
-    (subst ClearsNothing (sym grows.acts_are ∙ ap (λ (k : ℕ). own k grows.rest) clerk) quiet)
-    (subst (IsLegal plan) grows.seen grows.legal) odd
+clerk_turn old acts new group clerk grows quiet odd = rw grows.seen
+    (quiet_turn old.directory.plan grows.rest old.seen group (rw (← grows.acts_are, clerk) at quiet)
+    (rw grows.seen at grows.legal) odd)
 
 pub clerk_on : (way : ℕ → ℕ) (name : ℕ) (old mid new : Token) (count : ℕ) → mid.number ≡ old.number
     → Grows (looked mid.number ∷ []) mid new → name_of new.seen (way count) ≢ name
@@ -239,15 +234,11 @@ way_inside of groups place low near = omega arith
 -- the first eight places of an id are ways of its group, and the others of its second group
 module _ (plan : Plan) (id : ℕ) where
   pub way_at_first : (place : ℕ) → place < 8 → way_at plan id place ≡ 8 * group_of plan id + place
-  way_at_first place low = let half : place / 8 ≡ 0 = omega arith in let rest : place % 8 ≡ place = omega arith in
-      ap (λ (k : ℕ). 8 * group_at plan id k + place % 8) half ∙ ap (λ (k : ℕ). 8 * group_of plan id + k) rest
+  way_at_first place low = let half : place / 8 ≡ 0 = omega arith in rw half (omega arith)
 
   pub way_at_second : (place : ℕ) → 8 ≤ place → place < places
       → way_at plan id place ≡ 8 * second_of plan id + (place - 8)
-  way_at_second place high low =
-      let half : place / 8 ≡ 1 = omega arith in
-      let rest : place % 8 ≡ place - 8 = omega arith in
-      ap (λ (k : ℕ). 8 * group_at plan id k + place % 8) half ∙ ap (λ (k : ℕ). 8 * second_of plan id + k) rest
+  way_at_second place high low = let half : place / 8 ≡ 1 = omega arith in rw half (omega arith)
 
   -- a way of one of the groups is at a place
   pub at_first : (way : ℕ) → group_of_way way ≡ group_of plan id → IsWayOf plan id way
@@ -312,18 +303,12 @@ looks_leave count old new grows = (looks count old.number, grows, looks_names co
 -- a look at a mark, and a choice
 load_then_turn : (group of bits : ℕ) (old mid new : Token) → LoadsMarks group old mid → TurnsMarks of bits mid new
     → LeavesNames old new
-load_then_turn group of bits old mid new loads turns = (
-  touched mid.number (turned of bits) ∷ load_of_marks old.directory.plan old.number group ∷ [],
-  grows_on old mid new (load_of_marks old.directory.plan old.number group ∷ [])
-      (touched mid.number (turned of bits) ∷ []) loads turns,
-  λ way. refl,
-)
+load_then_turn group of bits old mid new loads turns = (_, grows_on old mid new _ _ loads turns, λ way. refl)
 
 pub takes_leave : (way : ℕ) (old new : Token) (taken : Bool) → TakesMark way old new taken → LeavesNames old new
 takes_leave way old new true takes =
     load_then_turn (group_of_way way) (group_of_way way) (mark_bit way) old takes.0 new takes.1.looks takes.2
-takes_leave way old new false takes =
-    (load_of_marks old.directory.plan old.number (group_of_way way) ∷ [], takes.looks, λ way. refl)
+takes_leave way old new false takes = (_, takes.looks, λ way. refl)
 
 pub chosen_group : (group way : ℕ) (old new : Token) → ChoosesWay group way old new → group_of_way way ≡ group
 chosen_group group way old new chooses = omega (arith, chooses.way_is, chooses.chooses.place_is)

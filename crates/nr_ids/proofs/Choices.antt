@@ -1,7 +1,7 @@
 -- Choices in turn come to each place: one that has no mark is so much further on, and each choice comes nearer to it;
 -- one
 -- that has a mark is passed once, and is eight places further on then.
-use Rattle.std.proofs.Common.{◌≡◌, ◌≢◌, ℕ, zero, suc, ◌+◌, ◌-◌, ◌*◌, ◌%◌, ◌^◌, ◌<◌, ◌≤◌, List, [], ◌∷◌, length, sym, ap}
+use Rattle.std.proofs.Common.{◌≡◌, ◌≢◌, ℕ, zero, suc, ◌+◌, ◌-◌, ◌*◌, ◌%◌, ◌<◌, ◌≤◌, List, [], ◌∷◌, length, sym, ap}
 use Rattle.std.proofs.Common.{◌∙◌, subst, arith, bit_xor}
 use mathlib.Core.Logic.{dite}
 use native.Mathlib.Decide.{dec_le, ℕ_discrete}
@@ -18,32 +18,13 @@ use Rattle.nr_ids.proofs.MarkBits.{bits_from_only, turned_bits}
 bits_from_has : (begin count step : ℕ) → step < count → bit_at (bits_from begin count) (place_after begin step) ≡ 1
 bits_from_has begin zero step near = absurd (omega (arith, near))
 bits_from_has begin (suc count) step near =
-    let place : ℕ = place_after begin step in
-    let both = bit_at_or (bits_from begin count) (2 ^ place_after begin count) place in
-    let few = bit_at-lt (bits_from begin count) place in
-    let low = bit_at-lt (2 ^ place_after begin count) place in
-    dite (ℕ_discrete step count)
-    (λ (e : step ≡ count).
-    let one : bit_at (2 ^ place_after begin count) place ≡ 1 =
-    ap (λ (k : ℕ). bit_at (2 ^ place_after begin count) (place_after begin k)) e
-    ∙ bit_at-pow_same (place_after begin count) in
-    omega (arith, both, few, one))
-    (λ ne. let had = bits_from_has begin count step (omega (arith, near, ne)) in omega (arith, both, low, had))
-
-same_step : (begin step other : ℕ) → step < 8 → other < 8 → place_after begin step ≡ place_after begin other → step ≡
-    other
-same_step begin step other low near same = omega (arith, low, near, same)
+    grind (arith, bits_from_has begin count step, bit_at_or, bit_at-lt, bit_at-pow_same)
 
 bits_from_lack : (begin count step : ℕ) → count ≤ 8 → step < 8 → count ≤ step
     → bit_at (bits_from begin count) (place_after begin step) ≡ 0
 bits_from_lack begin count step few low behind =
-    let bit = bit_at-lt (bits_from begin count) (place_after begin step) in
-    dite (ℕ_discrete (bit_at (bits_from begin count) (place_after begin step)) 1)
-    (λ (e : bit_at (bits_from begin count) (place_after begin step) ≡ 1).
-    let t = bits_from_only begin count (place_after begin step) e in
-    let same = same_step begin step t.0 low (omega (arith, few, t.1)) t.2 in
-    absurd (omega (arith, same, behind, t.1)))
-    (λ ne. omega (arith, bit, ne))
+    let place : ℕ = place_after begin step in
+    grind (arith, bits_from_only begin count place, bit_at-lt (bits_from begin count) place)
 
 -- the next choice begins behind the place
 bit_of_begin : (marks i : ℕ) → i < 3 → bit_at (begin_of marks) i ≡ bit_at marks (8 + i)
@@ -62,12 +43,8 @@ module _ (marks place bits : ℕ) (chooses : ChoosesPlace marks place bits) wher
       let passed : ℕ = bits_from begin chooses.passed in
       let moved : ℕ = 256 * bit_xor begin next in
       let few = bit_at-lt moved (8 + i) in
-      let bit = bit_at-lt passed (8 + i) in
-      let none : bit_at passed (8 + i) ≡ 0 = dite (ℕ_discrete (bit_at passed (8 + i)) 1)
-      (λ (e : bit_at passed (8 + i) ≡ 1).
-      let t = bits_from_only begin chooses.passed (8 + i) e in
-      absurd (omega (arith, t.2)))
-      (λ ne. omega (arith, bit, ne)) in
+      let none : bit_at passed (8 + i) ≡ 0
+      = grind (arith, bits_from_only begin chooses.passed (8 + i), bit_at-lt passed (8 + i)) in
       let high : bit_at moved (8 + i) ≡ bit_at (bit_xor begin next) i =
       ap (λ (n : ℕ). bit_at n (8 + i)) (omega arith)
       ∙ bit_at_cat_high (bit_xor begin next) 8 0 (8 + i) (omega arith) (omega arith)

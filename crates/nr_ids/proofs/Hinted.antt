@@ -3,6 +3,7 @@ use Rattle.std.proofs.Common.{◌≡◌, ◌≢◌, ℕ, ◌+◌, ◌*◌, ◌/�
 use Rattle.std.proofs.Common.{arith}
 use mathlib.Core.Logic.{dite}
 use native.Mathlib.Decide.{ℕ_discrete}
+use Rattle.std.proofs.lemmas.Bool.Decides.{nat_tests}
 use Rattle.nr_ids.specs.declared.plan.Plan.{Plan}
 use Rattle.nr_ids.specs.Groups.{group_of_way, hint_of, way_in}
 use Rattle.nr_ids.specs.Events.{Event, Touch, named, unnamed, touched, hinted, own, hint_at, hint_in, hints_after}
@@ -42,15 +43,10 @@ hint_real plan id none = absurd (omega (arith, none))
 own_hint : (plan : Plan) (log : List Event) (way id : ℕ) → IsLegal plan log → 0 < id → name_of log way ≡ id
     → hint_in log way ≡ hint_of plan id
 own_hint plan [] way id legal real at = absurd (omega arith)
-own_hint plan (named other i ∷ log) way id legal real at = dite (ℕ_discrete other way)
-    (λ (e : other ≡ way).
-    let same : i ≡ id = sym (cond_same i (name_of log way) other way e) ∙ at in
-    ap (hint_in log) (sym e) ∙ legal.0.hint ∙ ap (hint_of plan) same)
-    (λ ne. own_hint plan log way id legal.1 real (sym (cond_else i (name_of log way) other way ne) ∙ at))
-own_hint plan (unnamed other ∷ log) way id legal real at = dite (ℕ_discrete other way)
-    (λ (e : other ≡ way).
-    let none : 0 ≡ id = sym (cond_same 0 (name_of log way) other way e) ∙ at in absurd (omega arith))
-    (λ ne. own_hint plan log way id legal.1 real (sym (cond_else 0 (name_of log way) other way ne) ∙ at))
+own_hint plan (named other i ∷ log) way id legal real at =
+    let on = own_hint plan log way id legal.1 real in let hint = legal.0.hint in grind (arith, nat_tests)
+own_hint plan (unnamed other ∷ log) way id legal real at =
+    let on = own_hint plan log way id legal.1 real in grind (arith, nat_tests)
 own_hint plan (touched by touch ∷ log) way id legal real at =
     by_touch touch legal.0 (own_hint plan log way id legal.1 real at)
   where
@@ -90,9 +86,7 @@ other_hint plan log group place id legal real low other has =
 
 pub no_hint : (plan : Plan) (log : List Event) (group place : ℕ) → IsLegal plan log → place < 8
     → hint_at (hints_of log group) place ≡ 0 → name_of log (way_in group place) ≡ 0
-no_hint plan log group place legal low none = dite (ℕ_discrete (name_of log (way_in group place)) 0)
-    (λ (e : name_of log (way_in group place) ≡ 0). e)
-    (λ some. let real : 0 < name_of log (way_in group place) = omega (arith, some) in
-    absurd (hint_real plan (name_of log (way_in group place))
-    (sym (own_hint plan log (way_in group place) (name_of log (way_in group place)) legal real refl)
-    ∙ hint_there log group place low ∙ none)))
+no_hint plan log group place legal low none =
+    let way : ℕ = way_in group place in
+    grind (arith, own_hint plan log way (name_of log way) legal, hint_real plan (name_of log way),
+    hint_there log group place low)

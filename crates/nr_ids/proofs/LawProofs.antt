@@ -1,6 +1,7 @@
 -- The laws.
 use Rattle.std.proofs.Common.{◌≡◌, ℕ, ◌+◌, ◌%◌, ◌<◌, ◌⊎◌, ⊎_elim, inl, inr, List, [], ◌∷◌, ◌++◌, refl, sym, ap, ◌∙◌}
-use Rattle.std.proofs.Common.{subst, arith, append_assoc, Option, Some, None, ◌==◌, cond, Bool, true, false}
+use Rattle.std.proofs.Common.{subst, arith, append_assoc, Option, Some, None, ◌==◌, cond, Bool}
+use Rattle.std.proofs.lemmas.Bool.Decides.{nat_tests}
 use Rattle.nr_ids.specs.declared.plan.Plan.{Plan}
 use Rattle.nr_ids.specs.Groups.{group_of}
 use Rattle.nr_ids.specs.Events.{Event, named, unnamed, cleared, claimed, name_of, turn_of, IsLegal, IsOpen}
@@ -60,8 +61,7 @@ one_naming plan rest log way first id legal = let before = legal_end plan rest (
 one_more : (b : Bool) (turn granted closed : ℕ) → turn ≡ granted + closed
     → (cond b (turn + 1) turn ≡ cond b (granted + 1) granted + closed)
     × (cond b (turn + 1) turn ≡ granted + cond b (closed + 1) closed)
-one_more true turn granted closed is = (omega (arith, is), omega (arith, is))
-one_more false turn granted closed is = (is, is)
+one_more b turn granted closed is = grind (arith, nat_tests)
 
 pub turn_counts : TurnCounts
 turn_counts plan [] group = refl

@@ -4,6 +4,7 @@ use Rattle.std.proofs.Common.{◌≡◌, ◌≢◌, ℕ, zero, suc, ◌+◌, ◌
 use Rattle.std.proofs.Common.{List, [], ◌∷◌, ◌++◌, refl, sym, ap, ◌∙◌, subst, arith}
 use mathlib.Core.Logic.{dite}
 use native.Mathlib.Decide.{ℕ_discrete}
+use Rattle.std.proofs.lemmas.Bool.Decides.{nat_tests}
 use Rattle.nr_ids.specs.declared.plan.Plan.{Plan}
 use Rattle.nr_ids.specs.Groups.{IsWayOf, group_of, ways}
 use Rattle.nr_ids.specs.Events.{Event, named, unnamed, cleared, claimed, maker, own, looks, name_of, turn_of, May}
@@ -26,17 +27,11 @@ own_other by event log ne = cond_else (event ∷ own by log) (own by log) (maker
 
 pub own_none : (by : ℕ) (event : Event) (log : List Event) → own by (event ∷ log) ≡ []
     → (maker event ≢ by) × (own by log ≡ [])
-own_none by event log none = dite (ℕ_discrete (maker event) by)
-    (λ (e : maker event ≡ by). absurd (cc (sym (own_this by event log e) ∙ none)))
-    (λ ne. (ne, sym (own_other by event log ne) ∙ none))
+own_none by event log none = grind (arith, nat_tests)
 
 pub own_append : (by : ℕ) (a b : List Event) → own by (a ++ b) ≡ own by a ++ own by b
 own_append by [] b = refl
-own_append by (event ∷ a) b = dite (ℕ_discrete (maker event) by)
-    (λ (e : maker event ≡ by). own_this by event (a ++ b) e ∙ ap (λ (l : List Event). event ∷ l) (own_append by a b)
-    ∙ ap (λ (l : List Event). l ++ own by b) (sym (own_this by event a e)))
-    (λ ne. own_other by event (a ++ b) ne ∙ own_append by a b
-    ∙ ap (λ (l : List Event). l ++ own by b) (sym (own_other by event a ne)))
+own_append by (event ∷ a) b = grind (arith, nat_tests, own_append by a b)
 
 -- an event that tells nothing may be left out
 pub with_or_without : (tells : List Event → ℕ) (event : Event) (log seen : List Event) (b : Bool)

@@ -1,8 +1,6 @@
 -- Use bits: what an or and an exclusive or make of them, and that a set one stays until the clerk turns it over.
-use Rattle.std.proofs.Common.{◌≡◌, ◌≢◌, ℕ, zero, suc, ◌+◌, ◌*◌, ◌/◌, ◌%◌, ◌^◌, ◌<◌, ◌≤◌, ◌⊎◌, zero-mul, List, [], ◌∷◌}
+use Rattle.std.proofs.Common.{◌≡◌, ◌≢◌, ℕ, zero, suc, ◌+◌, ◌*◌, ◌%◌, ◌^◌, ◌<◌, ◌≤◌, ◌⊎◌, zero-mul, List, [], ◌∷◌}
 use Rattle.std.proofs.Common.{◌++◌, sym, ap, ◌∙◌, subst, arith, bit_and, bit_or, bit_xor, Bool, true, false, cond, ◌==◌}
-use mathlib.Core.Logic.{dite}
-use native.Mathlib.Decide.{ℕ_discrete}
 use Rattle.std.specs.Int.{bit_at}
 use Rattle.std.proofs.lemmas.Nat.Bits.{and_pow, bit_at-lt, bit_at-pow_other, bit_at-pow_same, bit_at-zero}
 use Rattle.std.proofs.lemmas.Nat.Bits.{bit_at_cat_low, bit_at_or}
@@ -17,12 +15,8 @@ use Rattle.nr_ids.proofs.Logs.{own_none}
 
 -- a way by its group and its bit
 pub same_way : (way other : ℕ) → group_of_way way ≡ group_of_way other → mark_bit way ≡ mark_bit other → way ≡ other
-same_way way other group bit = dite (ℕ_discrete (way % 8) (other % 8))
-    (λ (e : way % 8 ≡ other % 8). omega (arith, group, e))
-    (λ (ne : way % 8 ≢ other % 8).
-    let one : bit_at (2 ^ (way % 8)) (way % 8) ≡ 1 = bit_at-pow_same (way % 8) in
-    let none : bit_at (2 ^ (other % 8)) (way % 8) ≡ 0 = bit_at-pow_other (other % 8) (way % 8) ne in
-    absurd (cc (sym one ∙ ap (λ (n : ℕ). bit_at n (way % 8)) bit ∙ none)))
+same_way way other group bit =
+    grind (arith, bit_at-pow_same (way % 8), bit_at-pow_other (other % 8) (way % 8))
 
 -- a place's bit as the code makes it
 pub shifted : (place : ℕ) → place < 8 → 1 * 2 ^ place % 2 ^ 64 ≡ 2 ^ place
@@ -36,18 +30,13 @@ pub unmarked : (marks place : ℕ) → (HasMark marks place → ⊥) → bit_at 
 unmarked marks place other = let low = bit_at-lt marks place in omega (arith, low, other)
 
 -- whether it is among these marks
-bit_among : (marks place : ℕ) → place < 8 → bit_and marks (1 * 2 ^ place % 2 ^ 64) ≡ bit_at marks place * 2 ^ place
-bit_among marks place low = ap (bit_and marks) (shifted place low) ∙ and_pow marks place
-
 pub bit_set : (marks place : ℕ) → place < 8 → bit_and marks (1 * 2 ^ place % 2 ^ 64) ≢ 0 → HasMark marks place
-bit_set marks place low some = dite (ℕ_discrete (bit_at marks place) 1) (λ (e : bit_at marks place ≡ 1). e)
-    (λ ne. absurd (some
-    (bit_among marks place low ∙ ap (λ (k : ℕ). k * 2 ^ place) (unmarked marks place ne) ∙ zero-mul (2 ^ place))))
+bit_set marks place low some =
+    grind (arith, shifted place low, and_pow marks place, bit_at-lt marks place, zero-mul (2 ^ place))
 
 pub bit_unset : (marks place : ℕ) → place < 8 → bit_and marks (1 * 2 ^ place % 2 ^ 64) ≡ 0 → bit_at marks place ≡ 0
-bit_unset marks place low none = unmarked marks place (λ on.
-    let one : 1 * 2 ^ place ≡ 0 = ap (λ (k : ℕ). k * 2 ^ place) (sym on) ∙ sym (bit_among marks place low) ∙ none in
-    absurd (omega (arith, one, pow_pos place)))
+bit_unset marks place low none =
+    grind (arith, shifted place low, and_pow marks place, bit_at-lt marks place, pow_pos place)
 
 -- a set bit stays set by an or
 pub or_keeps : (b : Bool) (marks bits place : ℕ) → HasMark marks place
@@ -80,14 +69,8 @@ quiet_mark plan (event ∷ rest) log group place quiet legal set =
 pub bits_from_only : (begin count place : ℕ) → bit_at (bits_from begin count) place ≡ 1
     → (step : ℕ) × (step < count) × (place ≡ place_after begin step)
 bits_from_only begin zero place on = absurd (cc (sym on ∙ bit_at-zero place))
-bits_from_only begin (suc count) place on = dite (ℕ_discrete place (place_after begin count))
-    (λ (e : place ≡ place_after begin count). (count, omega arith, e))
-    (λ ne.
-    let apart = bit_at-pow_other (place_after begin count) place ne in
-    let both = bit_at_or (bits_from begin count) (2 ^ place_after begin count) place in
-    let low = bit_at-lt (bits_from begin count) place in
-    let t = bits_from_only begin count place (omega (arith, on, both, apart, low)) in
-    (t.0, omega (arith, t.1), t.2))
+bits_from_only begin (suc count) place on =
+    grind (arith, bits_from_only begin count place, bit_at-pow_other, bit_at_or, bit_at-lt)
 
 pub moved_low : (n place : ℕ) → place < 8 → bit_at (256 * n) place ≡ 0
 moved_low n place low =
@@ -95,12 +78,8 @@ moved_low n place low =
 
 pub turned_bits : (marks place bits : ℕ) (chooses : ChoosesPlace marks place bits) (at : ℕ) → at < 8
     → bit_at bits at ≡ bit_at (bits_from (begin_of marks) chooses.passed) at
-turned_bits marks place bits chooses at low =
-    let moved : ℕ = 256 * bit_xor (begin_of marks) (place_after place 1) in
-    let passed : ℕ = bits_from (begin_of marks) chooses.passed in
-    let few = bit_at-lt passed at in
-    let none : bit_at moved at ≡ 0 = moved_low (bit_xor (begin_of marks) (place_after place 1)) at low in
-    ap (λ (n : ℕ). bit_at n at) chooses.bits_are ∙ bit_at_or passed moved at ∙ omega (arith, none, few)
+turned_bits marks place bits chooses at low = rw chooses.bits_are
+    (grind (arith, bit_at_or, moved_low (bit_xor (begin_of marks) (place_after place 1)) at low, bit_at-lt))
 
 pub turned_are_marked : (marks place bits : ℕ) → ChoosesPlace marks place bits → (at : ℕ) → at < 8
     → bit_at bits at ≡ 1 → HasMark marks at
@@ -112,11 +91,7 @@ turned_are_marked marks place bits chooses at low on =
 -- one way's bit
 pub bit_is_marked : (log : List Event) (way bit : ℕ) → bit ≡ mark_bit way → IsMarked log way
     → AreMarked log (group_of_way way) bit
-bit_is_marked log way bit is set place low on = dite (ℕ_discrete place (way % 8))
-    (λ (e : place ≡ way % 8). subst (HasMark (marks_of log (way / 8))) (sym e) set)
-    (λ ne.
-    let none : bit_at (2 ^ (way % 8)) place ≡ 0 = bit_at-pow_other (way % 8) place ne in
-    absurd (cc (sym on ∙ ap (λ (n : ℕ). bit_at n place) is ∙ none)))
+bit_is_marked log way bit is set place low on = grind (arith, bit_at-pow_other)
 
 -- THE CHOICE, STEP BY STEP
 pub bits_on : (marks passed step : ℕ) → passed ≡ bits_from (begin_of marks) step

@@ -15,14 +15,14 @@ use Rattle.nr_ids.specs.declared.plan.Plan.{Plan}
 use Rattle.nr_ids.specs.Groups.{group_of, group_of_way, places, way_in, ways, IsPlan}
 use Rattle.nr_ids.specs.Events.{Event, named, unnamed, cleared, claimed, looked, touched, hinted, loaded, marked}
 use Rattle.nr_ids.specs.Events.{turned, maker, own, hint_at, hints_of, mark_bit, marks_of, name_of, turn_of, last_turn}
-use Rattle.nr_ids.specs.Events.{AreMarked, HasMark, KeepsHints, May, MayName, MayClaim, IsLegal, IsOpen}
+use Rattle.nr_ids.specs.Events.{AreMarked, KeepsHints, May, MayName, MayClaim, IsLegal, IsOpen}
 use Rattle.nr_ids.specs.Rule.{View, Shows, Fits, Kept, opener, counted, hints_place, marks_place, turn_place, total}
 use Rattle.nr_ids.specs.Plays.{Goes, has_looked_at_hints, has_looked_at_name, has_looked_at_turn, has_claimed}
 use Rattle.nr_ids.specs.Plays.{has_loaded, has_marked, has_named, has_unnamed, has_cleared, has_turned, has_hinted}
 use Rattle.nr_ids.specs.Plays.{Then}
 use Rattle.nr_ids.specs.Scans.{Scanned}
 use Rattle.nr_ids.specs.Tokens.{Opened, Sits, Grows, WinsClaim, token}
-use Rattle.nr_ids.proofs.Logs.{ClearsNothing, own_this, quiet_names, quiet_turn}
+use Rattle.nr_ids.proofs.Logs.{own_this, quiet_names, quiet_turn}
 use Rattle.nr_ids.proofs.MarkBits.{quiet_mark, same_way}
 use Rattle.nr_ids.proofs.Scanning.{scan_shows}
 use Rattle.nr_ids.proofs.Hinted.{quiet_hints}
@@ -146,9 +146,9 @@ module _ {table : TableId} {key : Plan} {now : Opened} (about : Stands table key
       (λ state kept goes. (
         goes,
         λ other at_place. let there : place ≡ turn_place key other = omega (arith, at_place, groups, own_groups) in
-            ap (λ (p : ℕ). get_or state.words p 0) there
-            ∙ kept.shows.turns other (omega (arith, low, is, there, groups))
-            ∙ ap (λ (plan : Plan). turn_of plan kept.log other) (sym plan_is),
+            rw there
+            (kept.shows.turns other (omega (arith, low, is, there, groups))
+            ∙ ap (λ (plan : Plan). turn_of plan kept.log other) (sym plan_is)),
       ))
 
   pub looks_at_hints : (group place : ℕ) → group < now.plan.groups → place ≡ hints_place now.plan group
@@ -158,8 +158,7 @@ module _ {table : TableId} {key : Plan} {now : Opened} (about : Stands table key
       (λ state kept goes. (
         goes,
         λ other at_place. let there : place ≡ hints_place key other = omega (arith, at_place, groups, own_groups) in
-            ap (λ (p : ℕ). get_or state.words p 0) there
-            ∙ kept.shows.hints other (omega (arith, low, is, there, groups)),
+            rw there (kept.shows.hints other (omega (arith, low, is, there, groups))),
       ))
 
   -- a load of any word, which of a group's marks tells what they are
@@ -171,8 +170,7 @@ module _ {table : TableId} {key : Plan} {now : Opened} (about : Stands table key
         goes,
         λ group near at_place.
             let there : place ≡ marks_place key group = omega (arith, at_place, groups, own_groups) in
-            ap (λ (p : ℕ). get_or state.words p 0) there
-            ∙ kept.shows.marks group (omega (arith, near, groups, own_groups)),
+            rw there (kept.shows.marks group (omega (arith, near, groups, own_groups))),
       ))
 
   -- a way's use bit is set
@@ -206,27 +204,25 @@ module _ {table : TableId} {key : Plan} {now : Opened} (about : Stands table key
     is_later = (kept.fits seat.id seat.me.0 at).later.is
 
     quiet : own 0 rest ≡ []
-    quiet = ap (λ (k : ℕ). own k rest) (sym clerk) ∙ (kept.fits seat.id seat.me.0 at).later.quiet sits.calls
+    quiet = rw (← clerk) ((kept.fits seat.id seat.me.0 at).later.quiet sits.calls)
 
     legal : IsLegal key (rest ++ seat.me.0.seen)
-    legal = subst (IsLegal key) is_later kept.legal
+    legal = rw is_later at kept.legal
 
     names_known : (way : ℕ) → name_of kept.log way ≡ name_of seat.me.0.seen way
-    names_known way = ap (λ (l : List Event). name_of l way) is_later ∙ quiet_names rest seat.me.0.seen way quiet
+    names_known way = rw is_later (quiet_names rest seat.me.0.seen way quiet)
 
     turn_known : (group : ℕ) → IsOpen key seat.me.0.seen group
         → turn_of key kept.log group ≡ turn_of key seat.me.0.seen group
-    turn_known group odd = ap (λ (l : List Event). turn_of key l group) is_later
-        ∙ quiet_turn key rest seat.me.0.seen group (subst ClearsNothing (sym quiet) tt) legal odd
+    turn_known group odd = rw is_later (quiet_turn key rest seat.me.0.seen group (rw quiet tt) legal odd)
 
     hints_known : (group : ℕ) → hints_of kept.log group ≡ hints_of seat.me.0.seen group
-    hints_known group =
-        ap (λ (l : List Event). hints_of l group) is_later ∙ quiet_hints key rest seat.me.0.seen group quiet legal
+    hints_known group = rw is_later (quiet_hints key rest seat.me.0.seen group quiet legal)
 
     -- use bits that are set stay so until the clerk turns them over
     set_known : (group bits : ℕ) → AreMarked seat.me.0.seen group bits → AreMarked kept.log group bits
-    set_known group bits were place low on = subst (λ (l : List Event). HasMark (marks_of l group) place) (sym is_later)
-        (quiet_mark key rest seat.me.0.seen group place quiet legal (were place low on))
+    set_known group bits were place low on =
+        rw is_later (quiet_mark key rest seat.me.0.seen group place quiet legal (were place low on))
 
     -- and hints that keep those of the named ways keep them still
     kept_known : (group hints : ℕ) → KeepsHints seat.me.0.seen group hints → KeepsHints kept.log group hints

@@ -3,10 +3,9 @@ use Rattle.std.proofs.Common.{◌≡◌, ◌≢◌, ℕ, zero, suc, ◌+◌, ◌
 use Rattle.std.proofs.Common.{[], ◌∷◌, ◌++◌, length, get_or, set, refl, sym, ap, ◌∙◌, subst, arith, get_or-set_other}
 use Rattle.std.proofs.Common.{get_or-set_same}
 use mathlib.Core.Option.{some, some-injective, some-ne-none}
-use mathlib.Core.Logic.{dite}
-use native.Mathlib.Decide.{ℕ_discrete}
 use lib.ListN.{get_elem?}
 use Rattle.std.proofs.Math.ListN.{length-set}
+use Rattle.std.proofs.lemmas.Bool.Decides.{nat_tests}
 use Rattle.std.proofs.lemmas.List.{append-nil}
 use Rattle.atomic_table.specs.Table.{State, Splits, Joins}
 use Rattle.atomic_table.proofs.Lists.{at_set, set_else}
@@ -15,7 +14,7 @@ use Rattle.nr_ids.specs.Groups.{ways}
 use Rattle.nr_ids.specs.Events.{Event, hints_of, maker, marks_of, name_of, turn_of, May}
 use Rattle.nr_ids.specs.Rule.{View, Shows, Fits, Kept, BeginsWith, hints_place, marks_place, turn_place, counted}
 use Rattle.nr_ids.specs.Rule.{with_reader, next_reader, note_of, retold, with_note, spent}
-use Rattle.nr_ids.proofs.Logs.{cond_same, cond_else, own_other}
+use Rattle.nr_ids.proofs.Logs.{own_other}
 
 -- the words after a name, a turn, or a group's marks or hints are written
 module _ (plan : Plan) (words : List ℕ) (log : List Event) (shows : Shows plan words log) (event : Event) where
@@ -45,12 +44,8 @@ module _ (plan : Plan) (words : List ℕ) (log : List Event) (shows : Shows plan
   own_word : (P value becomes : ℕ → ℕ) (place group other n : ℕ) → place ≡ P group → place < length words
       → (P other ≡ P group → group ≡ other) → n ≡ becomes group → get_or words (P other) 0 ≡ value other
       → get_or (set words place n) (P other) 0 ≡ cond (group == other) (becomes other) (value other)
-  own_word P value becomes place group other n there inside same is was = dite (ℕ_discrete group other)
-      (λ (e : group ≡ other). ap (λ (k : ℕ). get_or (set words place n) k 0) (ap P (sym e) ∙ sym there)
-      ∙ get_or-set_same words place n 0 inside ∙ is ∙ ap becomes e
-      ∙ sym (cond_same (becomes other) (value other) group other e))
-      (λ ne. get_or-set_other words place (P other) n 0 (λ e. ne (same (e ∙ there))) ∙ was
-      ∙ sym (cond_else (becomes other) (value other) group other ne))
+  own_word P value becomes place group other n there inside same is was =
+      grind (arith, nat_tests, get_or-set_same, get_or-set_other)
 
   other_word : (place other n old new : ℕ) → other ≢ place → get_or words other 0 ≡ old → new ≡ old
       → get_or (set words place n) other 0 ≡ new

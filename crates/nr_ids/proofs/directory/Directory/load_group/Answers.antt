@@ -13,5 +13,4 @@ returns-clause-loads c =
     let group : ℕ = group_of plan c.args.id in
     let hints : Grows (touched old.number (loaded (hints_place plan group)) ∷ []) old mid = search rules in
     let name : Grows (touched old.number (loaded (8 * group)) ∷ []) mid new = search rules in
-    let both = grows_on old mid new (touched old.number (loaded (hints_place plan group)) ∷ [])
-    (touched old.number (loaded (8 * group)) ∷ []) hints name in search rules
+    let both = grows_on old mid new _ _ hints name in search rules
