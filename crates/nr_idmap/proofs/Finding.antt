@@ -1,5 +1,5 @@
 -- What a find by id says, by what the map's find found in the id's way.
-use Rattle.std.proofs.Common.{◌≡◌, ℕ, List, [], ◌∷◌, ap, sym, subst, Some, ◌∙◌, refl, None}
+use Rattle.std.proofs.Common.{◌≡◌, ℕ, List, [], ◌∷◌, ap, Some, ◌∙◌, refl, None}
 use Rattle.nr_model.specs.declared.rows.Row.{Row}
 use Rattle.nr_board.specs.Callers.{Caller}
 use Rattle.nr_map.specs.LoadsAhead.{LoadsKey, load_of, with_loads}
@@ -16,21 +16,16 @@ use Rattle.nr_idmap.specs.Keepers.{IdCaller}
 use Rattle.nr_idmap.specs.Tags.{tag_of}
 
 -- with the look-up before it
-pub finds_by_way : {Room : Type 0} (shows : Room → List Row → Type 0) (id : ℕ) (at : NamedWay) (old new : IdCaller)
+finds_by_way : {Room : Type 0} (shows : Room → List Row → Type 0) (id : ℕ) (at : NamedWay) (old new : IdCaller)
     (looked : Token) (before after : Room) (result : FoundId) → LooksForWay id old.ids looked (Some at) →
     FindsInside shows id at (record { caller = old.caller; ids = looked }) before new after result
     → FindsByName shows id old before new after result
 finds_by_way shows id at old new looked before after found.Rows looks finds =
     (at, finds.0, looked, (looks, finds.1), finds.2, finds.3)
 finds_by_way shows id at old new looked before after found.Pending looks finds =
-    (at, subst (λ (t : Token). LooksForWay id old.ids t (Some at)) (sym finds.1) looks, finds.0, finds.2)
-finds_by_way shows id at old new looked before after found.Moved looks finds = (
-  at,
-  finds.0,
-  (subst (λ (t : Token). LooksForWay id old.ids t (Some at)) (sym finds.2) looks, finds.1),
-  finds.3,
-  finds.4,
-)
+    (at, rw finds.1 looks, finds.0, finds.2)
+finds_by_way shows id at old new looked before after found.Moved looks finds =
+    (at, finds.0, (rw finds.2 looks, finds.1), finds.3, finds.4)
 finds_by_way shows id at old new looked before after found.Absent looks finds = absurd finds
 
 -- a load of the line's word, by its key
@@ -40,51 +35,32 @@ line_loaded id key ids old near line loaded =
     loaded.1 ∙ ap (λ (place : ℕ). with_loads (load_of place loaded.0 ∷ []) old) line
 
 -- and with the line of the id's key loaded before that
-pub finds_by_id : {Room : Type 0} (shows : Room → List Row → Type 0) (id : ℕ) (at : NamedWay) (old now new : IdCaller)
-    (key : ℕ) (near : Caller) (looked : Token) (before after : Room) (result : FoundId) → old ≡ now
-    → key ≡ line_of id old.ids → LoadsKey key old.caller near → LooksForWay id old.ids looked (Some at)
+pub finds_by_id : {Room : Type 0} (shows : Room → List Row → Type 0) (id : ℕ) (at : NamedWay) (old new : IdCaller)
+    (key : ℕ) (near : Caller) (looked : Token) (before after : Room) (result : FoundId) → key ≡ line_of id old.ids
+    → LoadsKey key old.caller near → LooksForWay id old.ids looked (Some at)
     → FindsInside shows id at (record { caller = near; ids = looked }) before new after result
-    → FindsById shows id now before new after result
-finds_by_id shows id at old now new key near looked before after result is line loaded looks finds =
-    subst (λ (o : IdCaller). FindsById shows id o before new after result) is (
-      loaded.0,
-      finds_by_way shows id at (with_line id loaded.0 old) new looked before after result looks
-          (subst (λ (c : Caller). FindsInside shows id at (record { caller = c; ids = looked }) before new after result)
-          (line_loaded id key old.ids old.caller near line loaded) finds),
-    )
+    → FindsById shows id old before new after result
+finds_by_id shows id at old new key near looked before after result line loaded looks finds = (
+  loaded.0,
+  finds_by_way shows id at (with_line id loaded.0 old) new looked before after result looks
+      (rw (line_loaded id key old.ids old.caller near line loaded) at finds),
+)
 
 -- or no way had the id's name
-pub finds_absent : {Room : Type 0} (shows : Room → List Row → Type 0) (id : ℕ) (old now : IdCaller) (key : ℕ)
-    (near : Caller) (looked : Token) (room : Room) → old ≡ now → key ≡ line_of id old.ids → LoadsKey key old.caller near
+pub finds_absent : {Room : Type 0} (shows : Room → List Row → Type 0) (id : ℕ) (old : IdCaller) (key : ℕ)
+    (near : Caller) (looked : Token) (room : Room) → key ≡ line_of id old.ids → LoadsKey key old.caller near
     → LooksForWay id old.ids looked None
-    → FindsById shows id now room (record { caller = near; ids = looked }) room found.Absent
-finds_absent shows id old now key near looked room is line loaded looks =
-    subst (λ (o : IdCaller). FindsById shows id o room (record { caller = near; ids = looked }) room found.Absent) is (
-      loaded.0,
-      (looks, line_loaded id key old.ids old.caller near line loaded, refl),
-    )
+    → FindsById shows id old room (record { caller = near; ids = looked }) room found.Absent
+finds_absent shows id old key near looked room line loaded looks =
+    (loaded.0, (looks, line_loaded id key old.ids old.caller near line loaded, refl))
 
 -- by what the map found there
-by_told : {Room : Type 0} (shows : Room → List Row → Type 0) (id : ℕ) (at : NamedWay) (old : IdCaller) (caller : Caller)
-    (marked : Token) (before after : Room) (told : Tagged)
-    → FindsTagged shows (tag_of id) at.way old.caller before caller after told → MarksTold told at old.ids marked
+pub finds_inside : {Room : Type 0} (shows : Room → List Row → Type 0) (id : ℕ) (at : NamedWay) (old : IdCaller)
+    (caller : Caller) (marked : Token) (before after : Room) (tag : Row) (told : Tagged) → tag ≡ tag_of id
+    → FindsTagged shows tag at.way old.caller before caller after told → MarksTold told at old.ids marked
     → FindsInside shows id at old before (record { caller = caller; ids = marked }) after (answer_told told)
-by_told shows id at old caller marked before after tagged.Rows finds marks = (finds.0, finds.1, marks, finds.2)
-by_told shows id at old caller marked before after tagged.Other finds marks =
-    (finds.0, finds.1, marks, finds.2, finds.3)
-by_told shows id at old caller marked before after tagged.Hole finds marks = (finds.0, marks, finds.1)
-
-pub finds_inside : {Room : Type 0} (shows : Room → List Row → Type 0) (id : ℕ) (at : NamedWay) (old now : IdCaller)
-    (caller : Caller) (marked : Token) (before after : Room) (tag : Row) (told : Tagged) (result : FoundId) → old ≡ now
-    → tag ≡ tag_of id → FindsTagged shows tag at.way old.caller before caller after told
-    → MarksTold told at old.ids marked → result ≡ answer_told told
-    → FindsInside shows id at now before (record { caller = caller; ids = marked }) after result
-finds_inside shows id at old now caller marked before after tag told result is tagged_so finds marks answer =
-    subst (λ (r : FoundId). FindsInside shows id at now before (record { caller = caller; ids = marked }) after r)
-    (sym answer)
-    (subst
-    (λ (o : IdCaller).
-    FindsInside shows id at o before (record { caller = caller; ids = marked }) after (answer_told told))
-    is
-    (by_told shows id at old caller marked before after told
-    (subst (λ (t : Row). FindsTagged shows t at.way old.caller before caller after told) tagged_so finds) marks))
+finds_inside shows id at old caller marked before after tag tagged.Rows is finds marks =
+    let it = rw is at finds in (it.0, it.1, marks, it.2)
+finds_inside shows id at old caller marked before after tag tagged.Other is finds marks =
+    let it = rw is at finds in (it.0, it.1, marks, it.2, it.3)
+finds_inside shows id at old caller marked before after tag tagged.Hole is finds marks = (finds.0, marks, finds.1)

@@ -15,7 +15,6 @@ mod LookUps
 mod Finding
 mod Choosing
 mod Walking
-mod Holding
 mod Opening
 mod Giving
 mod Looking

@@ -1,9 +1,10 @@
-use Rattle.std.proofs.Common.{rules, ◌≡◌, refl, ap, subst, sym, ◌∙◌, List, Option, Some, None}
+use Rattle.std.proofs.Common.{rules, ◌≡◌, ap, ◌∙◌, List, Option, Some, None}
 use Rattle.nr_model.specs.declared.rows.Row.{Row}
 use Rattle.nr_map.specs.Hands.{Handed}
 use Rattle.nr_idmap.specs.IdFinds.{line_of}
 use Rattle.nr_idmap.specs.declared.hands.Holding.{Holding}
-use Rattle.nr_idmap.specs.IdHands.{IdHanded, IsIdHand, id_held, reader_of}
+use Rattle.nr_idmap.specs.IdHands.{IdHanded, IsIdHand, id_held}
+use Rattle.nr_idmap.specs.Keepers.{IdCaller}
 use Rattle.nr_map.specs.LoadsAhead.{LoadsKey}
 use Rattle.nr_idmap.proofs.Finding.{finds_absent, finds_by_id, finds_inside}
 use Rattle.nr_idmap.proofs.hands.IdHand.find.Goals as goal
@@ -16,30 +17,25 @@ holds_none hand sorted (Some held) holds idle = absurd (cc (idle))
 
 pub returns-clause-finds : goal.returns-clause-finds
 returns-clause-finds g c =
-    let own : IdHanded
-    = record { hand = c.self.inside.hand; ids = c.self.inside.ids; id = id_held c.self.inside.held } in
+    let own : IdCaller = record { caller = c.self.inside.hand.reader; ids = c.self.inside.ids } in
     let line : c.first_way-first.result ≡ line_of c.args.id own.ids = search rules in
     let there = c.find_tagged-found.ensures.finds in
-    let none = holds_none own.hand c.self.inside.sorted c.self.inside.held c.self.invariant
+    let none = holds_none c.self.inside.hand c.self.inside.sorted c.self.inside.held c.self.invariant
     (ap (λ (h : IdHanded). h.id) c.self.view_is ∙ c.requires.idle) in
-    finds_by_id g.R.RowRoom.shows c.args.id c.in-Some.at (reader_of own) (reader_of c.args.self.now)
+    let loads : LoadsKey c.first_way-first.result own.caller there.reader
+    = rw (there.was_idle (c.load_key.ensures.held.0 ∙ none)) c.load_key.ensures.loads in
+    rw (← c.self.view_is, c.tell.ensures.answer)
+    (finds_by_id g.R.RowRoom.shows c.args.id c.in-Some.at own
     (record { caller = c.find_tagged-found.new.self.reader; ids = c.tell.new.ids }) c.first_way-first.result
-    there.reader
-    c.look_up.new.ids c.args.rows.now c.find_tagged-found.new.rows c.tell.result (ap reader_of c.self.view_is)
-    line
-    (subst (LoadsKey c.first_way-first.result own.hand.reader) (sym (there.was_idle (c.load_key.ensures.held.0 ∙ none)))
-    c.load_key.ensures.loads) c.in-Some.ensures.looks
+    there.reader c.look_up.new.ids c.args.rows.now c.find_tagged-found.new.rows _ line loads c.in-Some.ensures.looks
     (finds_inside g.R.RowRoom.shows c.args.id c.in-Some.at
-    (record { caller = there.reader; ids = c.look_up.new.ids })
     (record { caller = there.reader; ids = c.look_up.new.ids }) c.find_tagged-found.new.self.reader c.tell.new.ids
-    c.args.rows.now c.find_tagged-found.new.rows c.tag_of.result c.find_tagged-found.result c.tell.result refl
-    c.tag_of.ensures there.finds c.tell.ensures.marks c.tell.ensures.answer)
+    c.args.rows.now c.find_tagged-found.new.rows c.tag_of.result c.find_tagged-found.result
+    c.tag_of.ensures there.finds c.tell.ensures.marks))
 
 pub returns-in_default-clause-finds : goal.returns-in_default-clause-finds
 returns-in_default-clause-finds g c =
-    let own : IdHanded
-    = record { hand = c.self.inside.hand; ids = c.self.inside.ids; id = id_held c.self.inside.held } in
-    let line : c.first_way-first.result ≡ line_of c.args.id own.ids = search rules in
-    finds_absent g.R.RowRoom.shows c.args.id (reader_of own) (reader_of c.args.self.now) c.first_way-first.result
-    c.load_key.new.self.reader c.look_up.new.ids c.args.rows.now (ap reader_of c.self.view_is) line
-    c.load_key.ensures.loads c.in_default.ensures.looks
+    let own : IdCaller = record { caller = c.self.inside.hand.reader; ids = c.self.inside.ids } in
+    rw (← c.self.view_is)
+    (finds_absent g.R.RowRoom.shows c.args.id own c.first_way-first.result c.load_key.new.self.reader
+    c.look_up.new.ids c.args.rows.now (search rules) c.load_key.ensures.loads c.in_default.ensures.looks)

@@ -8,9 +8,10 @@ pub returns-clause-finds : goal.returns-clause-finds
 returns-clause-finds g c =
     let own : IdCaller = record { caller = c.reader.inside.reader; ids = c.reader.inside.ids } in
     let line : c.first_way-first.result ≡ line_of c.args.id own.ids = search rules in
-    finds_by_id g.R.RowRoom.shows c.args.id c.in-Some.at own c.args.reader.now c.find_in.new.reader
+    rw (← c.reader.view_is)
+    (finds_by_id g.R.RowRoom.shows c.args.id c.in-Some.at own c.find_in.new.reader
     c.first_way-first.result c.load_key.new.reader c.look_up.new.ids c.args.rows.now c.find_in.new.rows
-    c.find_in.result c.reader.view_is line c.load_key.ensures.loads c.in-Some.ensures.looks c.find_in.ensures.finds
+    c.find_in.result line c.load_key.ensures.loads c.in-Some.ensures.looks c.find_in.ensures.finds)
 
 pub returns-in_default-clause-finds : goal.returns-in_default-clause-finds
 returns-in_default-clause-finds g c =
@@ -18,5 +19,6 @@ returns-in_default-clause-finds g c =
     let line : c.first_way-first.result ≡ line_of c.args.id own.ids = search rules in
     let key : ℕ = c.first_way-first.result in
     let its : key ≡ line_of c.args.id own.ids = line in
-    finds_absent g.R.RowRoom.shows c.args.id own c.args.reader.now key c.load_key.new.reader c.look_up.new.ids
-    c.args.rows.now c.reader.view_is its c.load_key.ensures.loads c.in_default.ensures.looks
+    rw (← c.reader.view_is)
+    (finds_absent g.R.RowRoom.shows c.args.id own key c.load_key.new.reader c.look_up.new.ids c.args.rows.now
+    its c.load_key.ensures.loads c.in_default.ensures.looks)
