@@ -88,5 +88,5 @@ pub no_hint : (plan : Plan) (log : List Event) (group place : ℕ) → IsLegal p
     → hint_at (hints_of log group) place ≡ 0 → name_of log (way_in group place) ≡ 0
 no_hint plan log group place legal low none =
     let way : ℕ = way_in group place in
-    grind (arith, own_hint plan log way (name_of log way) legal, hint_real plan (name_of log way),
-    hint_there log group place low)
+    let own = own_hint plan log way (name_of log way) legal in
+    grind (arith, own, hint_real plan (name_of log way), hint_there log group place low)

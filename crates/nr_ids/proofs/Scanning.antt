@@ -1,5 +1,5 @@
 -- A scan at whose end the turn is still the one before it shows that no way has the id.
-use Rattle.std.proofs.Common.{◌≡◌, ℕ, ◌%◌, ◌<◌, ◌≤◌, List, ◌++◌, sym, ap, ◌∙◌, subst, arith, append_assoc}
+use Rattle.std.proofs.Common.{◌≡◌, ℕ, ◌%◌, ◌<◌, ◌≤◌, List, ◌++◌, sym, ap, ◌∙◌, arith, append_assoc}
 use Rattle.nr_ids.specs.declared.plan.Plan.{Plan}
 use Rattle.nr_ids.specs.Groups.{IsWayOf, group_of, places, way_at}
 use Rattle.nr_ids.specs.Events.{Event, name_of, turn_of, IsLegal, IsAbsent}
@@ -15,16 +15,13 @@ scan_shows plan log seen more id turn is legal real even now scan way has =
     let place : ℕ = at.0 in let pass = scan.passed place at.1 in let moment = pass.moment in
     let from : log ≡ (more ++ pass.later) ++ moment
     = is ∙ ap (λ (l : List Event). more ++ l) pass.until ∙ sym (append_assoc more pass.later moment) in
-    let whole : IsLegal plan ((more ++ pass.later) ++ moment) = subst (IsLegal plan) from legal in
     let rose : turn_of plan scan.start group ≤ turn_of plan moment group
-    = subst (λ (l : List Event). turn_of plan scan.start group ≤ turn_of plan l group) (sym pass.from)
-    (turn_rose plan pass.since scan.start group) in
+    = rw pass.from (turn_rose plan pass.since scan.start group) in
     let top = turn_rose plan (more ++ pass.later) moment group in
-    let last : turn_of plan ((more ++ pass.later) ++ moment) group ≡ turn
-    = ap (λ (l : List Event). turn_of plan l group) (sym from) ∙ now in
+    let last : turn_of plan ((more ++ pass.later) ++ moment) group ≡ turn = rw from at now in
     let first : turn_of plan scan.start group ≡ turn = scan.turn_is in
     let here : turn_of plan moment group ≡ turn = omega arith in
     let other
-    = stays_unnamed plan (more ++ pass.later) moment (way_at plan id place) id whole (omega arith)
+    = stays_unnamed plan (more ++ pass.later) moment (way_at plan id place) id (rw from at legal) (omega arith)
     (ap (λ (k : ℕ). k % 2) here ∙ even) real pass.other in
     other (ap (λ (l : List Event). name_of l (way_at plan id place)) (sym from) ∙ ap (name_of log) at.2 ∙ has)

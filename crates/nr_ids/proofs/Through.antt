@@ -2,8 +2,7 @@
 -- names were looked at one by one.
 use Rattle.std.proofs.Common.{◌≡◌, ◌≢◌, ℕ, zero, suc, ◌+◌, ◌*◌, ◌%◌, ◌^◌, ◌<◌, ◌≤◌, inl, inr, List, [], ◌∷◌, ◌++◌, ◌==◌}
 use Rattle.std.proofs.Common.{cond, refl, sym, ap, ◌∙◌, subst, arith, append_assoc, Option, Some, None, ◌↔◌, ◌-◌}
-use mathlib.Core.Logic.{dite}
-use native.Mathlib.Decide.{dec_le, ℕ_discrete}
+use Rattle.std.proofs.Common.{eq-eqb, ne_eqb}
 use Rattle.std.specs.Int.{bit_at}
 use Rattle.nr_ids.specs.Groups.{hint_of, way_in, ways}
 use Rattle.nr_ids.specs.Events.{Event, claimed, looked, looks, hint_at, hints_of, name_of, turn_of}
@@ -13,7 +12,7 @@ use Rattle.nr_ids.specs.declared.requests.Requested.{Requested}
 use Rattle.nr_ids.specs.declared.requests.Requested.TheVariants as requested
 use Rattle.nr_ids.specs.Answers.{FindsForClaim, FindsWay, LooksForClaim, LooksOn, LooksUp, Requests, WasOpen, WinsAfter}
 use Rattle.nr_ids.specs.Tokens.{Granted, Grows, Opened, Token, Within}
-use Rattle.nr_ids.proofs.Logs.{cond_same, cond_else}
+use Rattle.std.proofs.lemmas.Bool.Decides.{nat_tests}
 use Rattle.nr_ids.proofs.Hinted.{other_hint}
 use Rattle.nr_ids.proofs.Calls.{grows_next, absent_within, clerk_looks, clerk_on, each_place, lacked_later, looks_after}
 use Rattle.nr_ids.proofs.Calls.{none_has, still_passed, was_open, within_between, within_since, up_to}
@@ -52,12 +51,7 @@ module _ (id group : ℕ) (real : 0 < id) (old : Token) where
       → Until id group old hinted new count → Until id group old hinted new (suc count)
   until_next hinted new count near other until = record {
     hints = until.hints;
-    names =
-        subst (λ (k : ℕ). Grows (looks k hinted.number) hinted new)
-        (sym
-        (cond_else (fitting (hints_of hinted.seen group) hint count + 1)
-        (fitting (hints_of hinted.seen group) hint count) (hint_at (hints_of hinted.seen group) count) hint other))
-        until.names;
+    names = rw (ne_eqb (hint_at (hints_of hinted.seen group) count) hint other) until.names;
     lacked = up_to (λ place. LackedName (way_in group place) id old new) count until.lacked (record {
       moment = hinted.seen;
       within = within_between [] until.names.rest until.hints refl until.names.seen;
@@ -112,8 +106,7 @@ module _ (id group : ℕ) (real : 0 < id) (old : Token) where
     hints = hints_of hinted.seen group
 
     behind : so_far.passed ≤ at
-    behind = dite (dec_le so_far.passed at) (λ (e : so_far.passed ≤ at). e)
-        (λ before. absurd (cc (sym first.0 ∙ so_far.below at (omega (arith, before)))))
+    behind = grind (arith, so_far.below at, first.0)
 
     -- up to that one
     reached : Until id group old hinted mid at
@@ -130,9 +123,7 @@ module _ (id group : ℕ) (real : 0 < id) (old : Token) where
 
     looked_there : Grows (looks (fitting hints hint (suc at)) hinted.number) hinted new
     looked_there =
-        subst (λ (k : ℕ). Grows (looks k hinted.number) hinted new)
-        (sym (cond_same (fitting hints hint at + 1) (fitting hints hint at) (hint_at hints at) hint fits_here))
-        (looks_after (fitting hints hint at) 1 reached.names look)
+        rw (eq-eqb (hint_at hints at) hint fits_here) (looks_after (fitting hints hint at) 1 reached.names look)
 
     last : Within old new new.seen
     last = within_here old hinted new looked_there.rest reached.hints looked_there.seen
@@ -171,14 +162,11 @@ module _ (id group : ℕ) (real : 0 < id) (old : Token) where
             exact = clerk_on (way_in group) id old mid new at (reached.names.number ∙ reached.hints.number) look other
                 reached.exact;
           };
-          below = λ place before. dite (ℕ_discrete place at)
-              (λ (e : place ≡ at). rest at place first ∙ cond_same 0 (bit_at left place) place at e)
-              (λ ne. rest at place first ∙ cond_else 0 (bit_at left place) place at ne
-              ∙ first.1 place (omega (arith, before, ne)));
+          below = λ place before. grind (arith, nat_tests, rest at place first, first.1 place);
           above = λ place from to.
               let ne : place ≢ at = λ e. absurd (omega (arith, e, from)) in
               let same : bit_at others place ≡ bit_at left place
-              = rest at place first ∙ cond_else 0 (bit_at left place) place at ne in
+              = grind (arith, nat_tests, rest at place first) in
               let was = so_far.above place (omega (arith, from, behind)) to in (
                 λ on. was.0 (sym same ∙ on),
                 λ fits. same ∙ was.1 fits,
@@ -270,7 +258,7 @@ found_first id group way old new is found = record {
 module _ (id first second : ℕ) (old mid new : Token) (first_is : first ≡ group_for old id)
     (second_is : second ≡ second_for old id) (a : PassesGroup id first old mid) where
   by_first : LooksIn id (group_for old id) 8 old mid
-  by_first = subst (λ (g : ℕ). LooksIn id g 8 old mid) first_is a.looks
+  by_first = rw first_is at a.looks
 
   first_looks : SomeLooks old mid
   first_looks = looks_in a.looks
@@ -315,7 +303,7 @@ module _ (id first second : ℕ) (old mid new : Token) (first_is : first ≡ gro
         looks = record {
           mid = mid;
           first = by_first;
-          second = subst (λ (g : ℕ). LooksIn id g 8 mid new) second_is b.looks;
+          second = rw second_is at b.looks;
         };
         absent = absent_within id real old new grows.legal here lacked;
         passed = λ place near. let lack = lacked place near in let within = lack.within in record {
