@@ -1,9 +1,9 @@
 -- A way without a name that the writer's own reader asked for is asked for, as the writer knows it then, and its
 -- upquery is the only one that was opened.
-use Rattle.std.proofs.Common.{◌≡◌, ◌≢◌, ℕ, ◌<◌, ⊎_elim, List, [], ◌∷◌, ◌++◌, drop, refl, sym, ap, ◌∙◌}
+use Rattle.std.proofs.Common.{◌≡◌, ◌≢◌, ℕ, ◌<◌, ⊎_elim, List, [], ◌∷◌, ◌++◌, refl, sym, ap, ◌∙◌}
 use Rattle.std.proofs.Common.{arith, append_assoc, append-nil, Ok, Err}
 use Rattle.std.proofs.lemmas.Bool.{cases_eq}
-use Rattle.std.proofs.lemmas.List.{length-replicate}
+use Rattle.std.proofs.lemmas.List.{append_cancel_left, length-replicate}
 use Rattle.nr_model.specs.declared.calls.Call.TheVariants.{Ask}
 use Rattle.nr_model.specs.declared.states.KeyState.{KeyState}
 use Rattle.nr_model.specs.declared.states.KeyState.TheVariants.{Hole, Asked, Rows}
@@ -34,10 +34,6 @@ use Rattle.nr_idmap.proofs.Entries.{Rested, Stayed, after_both, count_after, sta
 use Rattle.nr_idmap.proofs.Stills.{agrees_still, others_still, owed_still}
 use Rattle.nr_idmap.proofs.Ties.{Leaves, clerk_tied, owed_asked, rested_of, retied, stays_tied}
 use Rattle.nr_idmap.proofs.WayCalls.{still_asked}
-
-append_cancel : (xs ys zs : List Entry) → xs ++ ys ≡ xs ++ zs → ys ≡ zs
-append_cancel [] ys zs same = same
-append_cancel (x ∷ xs) ys zs same = append_cancel xs ys zs (ap (drop 1) same)
 
 both_empty : (xs ys : List Entry) → xs ++ ys ≡ [] → (xs ≡ []) × (ys ≡ [])
 both_empty [] ys none = (refl, none)
@@ -118,7 +114,7 @@ module _ (way : ℕ) {a w a' w' : Caller} (rested : Rested w) (asks : AsksWay wa
   parts =
       let asked : asks.asked.seen ≡ w.seen ++ (before ++ request) = asks.asks.seen
       ∙ ap (λ (l : List Entry). (l ++ asks.asks.between) ++ request) asks.meets.seen.is ∙ simp append_assoc in
-      append_cancel w.seen _ _
+      append_cancel_left w.seen _ _
       (sym asks.hears.learns.seen.is ∙ asks.hears.seen.is ∙ ap (λ (l : List Entry). l ++ last) asked
       ∙ append_assoc w.seen (before ++ request) last)
 

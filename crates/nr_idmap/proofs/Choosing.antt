@@ -1,5 +1,5 @@
 -- Steps of the clerk that change no name leave the tie and the ledger.
-use Rattle.std.proofs.Common.{◌≡◌, ℕ, Option, Some, None, refl, subst, ◌∙◌}
+use Rattle.std.proofs.Common.{◌≡◌, ℕ, Option, Some, None, refl, ◌∙◌}
 use Rattle.nr_board.specs.Callers.{Caller}
 use Rattle.nr_ids.specs.Answers.{FindsId}
 use Rattle.nr_ids.specs.Tokens.{Token}
@@ -20,5 +20,4 @@ names_leave way old new None finds = looks_leave 1 old new finds.0
 -- as the contracts say it, of the writer as it was passed
 pub stays_so : {w a : Caller} {c c' : Token} {k : Keeper} → keeper_of w a c ≡ k
     → Leaves (keeper_of w a c) (keeper_of w a c') → StaysButClerk k (keeper_of w a c')
-stays_so {w} {a} {c' = c'} is left = subst (λ (x : Keeper). StaysButClerk x (keeper_of w a c')) is
-    (record { writer = refl; asker = refl; owes = left.1 })
+stays_so is left = rw (← is) (record { writer = refl; asker = refl; owes = left.1 })

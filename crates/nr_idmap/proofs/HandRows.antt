@@ -54,12 +54,8 @@ asked_first id old asked again = ⊎_elim
       seen = vain.asks.grows.seen ∙ append-nil (old.hand.reader.seen ++ vain.asks.grows.between);
       ids = vain.ids;
     })
-    (λ other. let same = again.1 other in record {
-      table = ap (λ (h : IdHanded). h.hand.reader.table) same;
-      more = [];
-      seen = ap (λ (h : IdHanded). h.hand.reader.seen) same ∙ sym (append-nil old.hand.reader.seen);
-      ids = ap (λ (h : IdHanded). h.ids) same;
-    })
+    (λ other. rw (again.1 other)
+    (record { table = refl; more = []; seen = sym (append-nil old.hand.reader.seen); ids = refl }))
     (held_or_not id old.id)
 
 -- a find of a way by a hand is one entry, whichever way it found

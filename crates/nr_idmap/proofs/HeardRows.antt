@@ -1,10 +1,11 @@
 -- A way that had an id's rows has that id's until it is evicted, in a history whose writer puts tags. So who finds it
 -- by a note was answered with rows.
-use Rattle.std.proofs.Common.{◌≡◌, ◌≢◌, ℕ, ◌+◌, ◌<◌, ⊎_elim, inl, inr, Bool, true, false, List, [], ◌∷◌, ◌++◌}
-use Rattle.std.proofs.Common.{refl, sym, ap, ◌∙◌, subst, arith, append_assoc, eq-eqb}
+use Rattle.std.proofs.Common.{◌≡◌, ◌≢◌, ℕ, ◌+◌, ◌<◌, ⊎_elim, inl, inr, Bool, false, List, [], ◌∷◌, ◌++◌}
+use Rattle.std.proofs.Common.{refl, sym, ap, ◌∙◌, subst, arith, append_assoc}
 use Rattle.std.specs.List.{count_by}
-use Rattle.std.proofs.lemmas.Bool.{cases_Bool, cases_eq}
+use Rattle.std.proofs.lemmas.Bool.{cases_eq}
 use Rattle.std.proofs.lemmas.List.{length-replicate, length-set}
+use Rattle.std.proofs.lemmas.Bool.Decides.{nat_tests}
 use Rattle.nr_model.specs.declared.rows.Row.{Row}
 use Rattle.nr_model.specs.declared.calls.Call.{Call}
 use Rattle.nr_model.specs.declared.calls.Call.TheVariants.{Find, Ask, Fill, Update, Replace, Evict, Cancel}
@@ -53,12 +54,7 @@ count_both p (e ∷ log) later =
 -- the entry evicts nothing, where it counts for nothing and is of that key
 pub none_evicted : (way : ℕ) (e : Entry) → call_key e.call ≡ way → one (evicts_at way e) ≡ 0
     → is_evicted e.reply ≡ false
-none_evicted way e same none = ⊎_elim
-    (λ (yes : is_evicted e.reply ≡ true).
-    let b : 1 ≡ 0 = rw (yes, eq-eqb (call_key e.call) way same) at none in
-    absurd (omega arith))
-    (λ (no : is_evicted e.reply ≡ false). no)
-    (cases_Bool (is_evicted e.reply))
+none_evicted way e same none = grind (arith, nat_tests)
 
 -- what a key has that each call of it leaves, it has after them all
 module _ (way : ℕ) (Has : KeyState → Type 0) where

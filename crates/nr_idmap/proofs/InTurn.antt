@@ -14,15 +14,13 @@ module _ {State One : Type 0} (call : State → One → State → One → Type 0
       (last, subst (λ (s : State). call s one last done) turn calls, refl)
   in_turn_more first (x ∷ ones) mid (y ∷ others) one last done turn calls =
       (turn.0, turn.1, in_turn_more turn.0 ones mid others one last done turn.2 calls)
-  in_turn_more first [] mid (y ∷ others) one last done turn calls = absurd turn
-  in_turn_more first (x ∷ ones) mid [] one last done turn calls = absurd turn
+  in_turn_more first ones mid others one last done turn calls = absurd turn
 
   pub in_turn_long : (old : State) (ones : List One) (new : State) (others : List One) → InTurn call old ones new others
       → length others ≡ length ones
   in_turn_long old [] new [] turn = refl
   in_turn_long old (x ∷ ones) new (y ∷ others) turn = ap suc (in_turn_long turn.0 ones new others turn.2)
-  in_turn_long old [] new (y ∷ others) turn = absurd turn
-  in_turn_long old (x ∷ ones) new [] turn = absurd turn
+  in_turn_long old ones new others turn = absurd turn
 
   -- that many calls were made; the other ones stand there as before
   pub record Made (first : State) (were : List One) (made : ℕ) (now : State) (are : List One) : Type 0 where
@@ -49,15 +47,10 @@ module _ {State One : Type 0} (call : State → One → State → One → Type 0
       one_more next done calls = record {
         long = length-set are made done ∙ begun.long;
         rest = drop-set-lt (made + 1) are made done (omega arith) ∙ (let here = tails.0 in let there = tails.1 in cc);
-        turn = subst (λ (l : List One). InTurn call first l next (take (made + 1) (set are made done)))
-            (sym (take_more were made one (omega (arith, begun.long))))
-            (subst (λ (l : List One). InTurn call first (take made were ++ get_or were made one ∷ []) next l)
-            (sym (take_more_set are made done low))
+        turn = rw (take_more were made one (omega (arith, begun.long)), take_more_set are made done low)
             (in_turn_more first (take made were) now (take made are) (get_or were made one) next done begun.turn
-            (subst (λ (o : One). call now o next done) as_was calls)));
+            (subst (λ (o : One). call now o next done) as_was calls));
       }
 
     pub all_made : length are ≤ made → InTurn call first were now are
-    all_made end =
-        subst (λ (l : List One). InTurn call first l now are) (take_all made were (omega (arith, begun.long)))
-        (subst (λ (l : List One). InTurn call first (take made were) now l) (take_all made are end) begun.turn)
+    all_made end = rw (take_all made were (omega (arith, begun.long)), take_all made are end) at begun.turn

@@ -1,5 +1,5 @@
 -- The laws of the writer by id, and of its ledger.
-use Rattle.std.proofs.Common.{◌≡◌, ℕ, zero, suc, ◌<◌, ◌⊎◌, inl, inr, List, [], ◌∷◌, ◌++◌, refl, sym, ap, ◌∙◌}
+use Rattle.std.proofs.Common.{◌≡◌, ℕ, suc, ◌<◌, ◌⊎◌, inl, inr, List, [], ◌∷◌, ◌++◌, refl, sym, ap, ◌∙◌}
 use Rattle.std.proofs.Common.{arith, Some, None}
 use Rattle.nr_model.specs.declared.rows.Row.{Row}
 use Rattle.nr_model.specs.declared.calls.Call.TheVariants.{Find}
@@ -39,8 +39,6 @@ heard_finds keeper old new steps key bound id rows tied size table heard gains =
 -- what is open for a way tells the way, its name and its number
 pub owed_tells : (way name : ℕ) (state : KeyState) (owed : Owed) → owed_for way name state ≡ Some owed →
     (owed.way ≡ way) × (owed.id ≡ name) × (0 < name) × (state ≡ Asked owed.number)
-owed_tells way zero state owed is = absurd (cc (is))
-owed_tells way (suc name) (Hole number) owed is = absurd (cc (is))
 owed_tells way (suc name) (Asked number) owed is =
     let same : record { way = way; number = number; id = suc name } ≡ owed = cc (is) in (
       ap (λ (o : Owed). o.way) (sym same),
@@ -48,7 +46,7 @@ owed_tells way (suc name) (Asked number) owed is =
       omega arith,
       ap (λ (o : Owed). Asked o.number) same,
     )
-owed_tells way (suc name) (Rows number rows) owed is = absurd (cc (is))
+owed_tells way name state owed is = absurd (cc (is))
 
 pub one_upquery : OneUpquery
 one_upquery keeper way other owed twin tied here there same =

@@ -11,9 +11,8 @@ use Rattle.nr_ids.specs.Rule.{BeginsWith}
 use Rattle.nr_ids.specs.Tokens.{Grows, Known, Token}
 use Rattle.nr_idmap.specs.declared.finds.NamedWay.{NamedWay}
 use Rattle.nr_idmap.specs.IdFinds.{LooksForWay}
-use Rattle.nr_idmap.specs.IdLoads.{key_named}
+use Rattle.nr_idmap.specs.IdLoads.{key_named, LooksUpEach, keys_named}
 use Rattle.nr_idmap.specs.IdHeard.{IsUnnamedSince}
-use Rattle.nr_idmap.specs.IdLoads.{LooksUpEach, keys_named}
 use Rattle.nr_idmap.specs.IdWalks.{IsNear}
 
 pub one_more_looked : (ids : List ℕ) (ways : List (Option NamedWay)) (id : ℕ) (found : Option NamedWay)
@@ -23,8 +22,7 @@ one_more_looked [] [] id found old mid new looked looks =
     (new, subst (λ (t : Token). LooksForWay id t new found) looked looks, refl)
 one_more_looked (first ∷ ids) (at ∷ ways) id found old mid new looked looks =
     (looked.0, looked.1, one_more_looked ids ways id found looked.0 mid new looked.2 looks)
-one_more_looked [] (at ∷ ways) id found old mid new looked looks = absurd looked
-one_more_looked (first ∷ ids) [] id found old mid new looked looks = absurd looked
+one_more_looked ids ways id found old mid new looked looks = absurd looked
 
 -- a way that the map has a key for has that key
 pub key_inside : (bound : ℕ) (at : Option NamedWay) → 0 < bound → IfSome at (λ named. named.way < bound)
@@ -60,11 +58,11 @@ unnamed_on told way seen more gone = (
 pub grown_on : (told : List Event) (way : ℕ) (acts : List Event) (old new : Token) → Grows acts old new
     → IsUnnamedSince told way old.seen → IsUnnamedSince told way new.seen
 grown_on told way acts old new grows gone =
-    subst (IsUnnamedSince told way) (sym grows.seen) (unnamed_on told way old.seen grows.rest gone)
+    rw grows.seen (unnamed_on told way old.seen grows.rest gone)
 
 pub set_on : (told : List Event) (way at : ℕ) (marked : Bool) (old new : Token) → SetsMark at marked old new
     → IsUnnamedSince told way old.seen → IsUnnamedSince told way new.seen
-set_on told way at true old new same gone = subst (λ (t : Token). IsUnnamedSince told way t.seen) (sym same) gone
+set_on told way at true old new same gone = rw same gone
 set_on told way at false old new grows gone = grown_on told way _ old new grows gone
 
 -- a token that heard of a way's name looks it up there, unless the name was taken since

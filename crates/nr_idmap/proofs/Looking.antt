@@ -5,7 +5,7 @@ use Rattle.nr_model.specs.declared.calls.Call.TheVariants.{Find}
 use Rattle.nr_model.specs.declared.calls.Reply.{Reply}
 use Rattle.nr_model.specs.declared.calls.Reply.TheVariants as reply
 use Rattle.nr_model.specs.declared.states.KeyState.{KeyState}
-use Rattle.nr_model.specs.declared.states.KeyState.TheVariants.{Hole, Asked, Rows}
+use Rattle.nr_model.specs.declared.states.KeyState.TheVariants.{Rows}
 use Rattle.nr_model.specs.Maps.{find_reply, state_of}
 use Rattle.nr_board.specs.Callers.{Caller, Gains}
 use Rattle.nr_ids.specs.Answers.{FindsWay}
@@ -20,9 +20,8 @@ use Rattle.nr_idmap.proofs.WayCalls.{has_name, untouched}
 -- a set that is found begins with the name's tag
 found_tagged : (name : ℕ) (state : KeyState) (set : List Row) → Agrees name state → reply.Rows set ≡ find_reply state →
     (others : List Row) × (set ≡ tag_of name ∷ others)
-found_tagged name (Hole n) set agrees found = absurd (cc (found))
-found_tagged name (Asked n) set agrees found = absurd (cc (found))
 found_tagged name (Rows n rows) set agrees found = let same : set ≡ rows = cc (found) in (agrees.1, same ∙ agrees.2)
+found_tagged name state set agrees found = absurd (cc (found))
 
 module _ {w a w' : Caller} {c c' : Token} (tied : IsTied (keeper_of w a c)) (id way : ℕ)
     (finds : FindsWay id c c' (Some way)) where

@@ -1,20 +1,17 @@
 -- The tokens of a new map and a new directory are tied.
-use Rattle.std.proofs.Common.{◌≡◌, ℕ, zero, suc, ◌+◌, ◌<◌, List, [], ◌∷◌, ◌++◌, length, refl}
+use Rattle.std.proofs.Common.{◌≡◌, ℕ, suc, ◌+◌, ◌<◌, List, [], ◌∷◌, ◌++◌, length, refl}
 use Rattle.std.proofs.Common.{sym, ap, ◌∙◌, subst, arith, length-append, Some}
 use Rattle.std.specs.Prelude.{All, slice_get}
-use Rattle.nr_model.specs.Histories.{Entry, IsLegal, after, entries_of}
-use Rattle.nr_model.specs.Maps.{state_of}
+use Rattle.std.proofs.lemmas.List.Elements.{All-cons, All-tail}
+use Rattle.nr_model.specs.Histories.{Entry, entries_of}
 use Rattle.nr_core.specs.declared.shape.Shape.{Shape}
 use Rattle.nr_core.specs.Marks.{no_marks}
-use Rattle.nr_board.specs.Callers.{Caller, KnowsOwn, Table, map_at_opening}
-use Rattle.nr_board.specs.Entries.{AreCallers}
-use Rattle.nr_ids.specs.Events.{Event, IsLegal as IsLegalList, name_of}
+use Rattle.nr_board.specs.Callers.{Caller, KnowsOwn, Table}
 use Rattle.nr_ids.specs.Groups.{ways}
 use Rattle.nr_ids.specs.Tokens.{Opened, Token, fresh_token}
 use Rattle.nr_map.specs.Opened.{IsOpened, newcomer}
 use Rattle.nr_idmap.specs.IdOpenings.{pairs_from}
-use Rattle.nr_idmap.specs.Keepers.{Agrees, IdCaller, IsTied, keeper_of, id_table_of}
-use Rattle.nr_idmap.specs.Tidy.{IsTidy}
+use Rattle.nr_idmap.specs.Keepers.{IdCaller, IsTied, keeper_of, id_table_of}
 use Rattle.nr_idmap.proofs.Readings.{opened_hole}
 
 last_of : (rest : List Caller) (last : Caller) → slice_get (rest ++ last ∷ []) (length rest) ≡ Some last
@@ -47,20 +44,18 @@ module _ (shape : Shape) (words : ℕ) (map : Table) (writer asker : Caller) (ma
           asks = (ap (λ (r : Caller). r.table) asker_is ∙ sym table, subst KnowsOwn (sym asker_is) refl);
           names = (refl, fresh.0);
           ways_are = sized ∙ ap (λ (s : Shape). s.keys) (sym sizes);
-          room = subst (λ (s : Shape). 0 < s.rows) (sym sizes) room;
+          room = rw sizes room;
           sound = record {
-            legal = subst (IsLegal (map_at_opening writer.table)) (sym seen) tt;
+            legal = rw seen tt;
             own = ap (λ (l : List Entry). entries_of l writer.number) seen ∙ sym mine;
-            callers = subst (AreCallers writer.table.shape) (sym seen) tt;
+            callers = rw seen tt;
           };
-          tidy = subst (IsTidy (map_at_opening writer.table)) (sym seen) tt;
-          legal = subst (IsLegalList clerk.directory.plan) (sym fresh.1) tt;
+          tidy = rw seen tt;
+          legal = rw fresh.1 tt;
           agrees = λ way.
               let hole = opened_hole writer.table.shape.keys writer.table.shape.rows writer.table.shape.first_number
               way in
-              subst (Agrees (name_of clerk.seen way))
-              (sym (ap (λ (l : List Entry). state_of (after (map_at_opening writer.table) l) way) seen ∙ hole.1))
-              (ap (λ (l : List Event). name_of l way) fresh.1);
+              rw (seen, fresh.1, hole.1) refl;
         }
 
 -- the readers are as many as those of the map, but for the one that asks, and of that map over ids
@@ -69,32 +64,24 @@ pub pairs_count : (directory : Opened) (made : ℕ) (readers : List Caller)
 pairs_count directory made [] = refl
 pairs_count directory made (reader ∷ readers) = ap suc (pairs_count directory (made + 1) readers)
 
--- what holds of the first and of the others holds of all
-all_more : {A : Type 0} (P : A → Type 0) (x : A) (xs : List A) → P x → All P xs → All P (x ∷ xs)
-all_more P x xs first others zero d low = first
-all_more P x xs first others (suc place) d low = others place d (omega arith)
-
-all_rest : {A : Type 0} (P : A → Type 0) (x : A) (xs : List A) → All P (x ∷ xs) → All P xs
-all_rest P x xs all = λ place d low. all (suc place) d (omega arith)
-
 pub pairs_own : (map : Table) (directory : Opened) (made : ℕ) (readers : List Caller)
     → All (λ reader. reader.table ≡ map) readers →
     All (λ reader. id_table_of reader ≡ record { map = map; directory = directory }) (pairs_from directory made readers)
 pairs_own map directory made [] own = λ place d low. absurd (omega arith)
 pairs_own map directory made (reader ∷ readers) own =
     let here : reader.table ≡ map = own 0 reader (omega arith) in
-    all_more (λ (r : IdCaller). id_table_of r ≡ record { map = map; directory = directory })
+    All-cons (λ (r : IdCaller). id_table_of r ≡ record { map = map; directory = directory })
     (record { caller = reader; ids = fresh_token directory (made + 1) }) (pairs_from directory (made + 1) readers)
     (λ i. record { map = here i; directory = directory })
-    (pairs_own map directory (made + 1) readers (all_rest (λ (r : Caller). r.table ≡ map) reader readers own))
+    (pairs_own map directory (made + 1) readers (All-tail (λ (r : Caller). r.table ≡ map) reader readers own))
 
 all_front : (map : Table) (l : List Caller) (last : Caller) → All (λ reader. reader.table ≡ map) (l ++ last ∷ []) →
     All (λ reader. reader.table ≡ map) l
 all_front map [] last all = λ place d low. absurd (omega arith)
-all_front map (x ∷ l) last all = all_more (λ (r : Caller). r.table ≡ map) x l (all 0 x (omega arith))
-    (all_front map l last (all_rest (λ (r : Caller). r.table ≡ map) x (l ++ last ∷ []) all))
+all_front map (x ∷ l) last all = All-cons (λ (r : Caller). r.table ≡ map) x l (all 0 x (omega arith))
+    (all_front map l last (All-tail (λ (r : Caller). r.table ≡ map) x (l ++ last ∷ []) all))
 
 pub others_own : (map : Table) (mapped rest : List Caller) (asker : Caller) → mapped ≡ rest ++ asker ∷ [] →
     All (λ reader. reader.table ≡ map) mapped → All (λ reader. reader.table ≡ map) rest
 others_own map mapped rest asker asks own = all_front map rest asker
-    (subst (λ (l : List Caller). All (λ reader. reader.table ≡ map) l) asks own)
+    (rw asks at own)

@@ -374,9 +374,8 @@ tidy_begins map [] later tidy = tt
 tidy_begins map (e ∷ history) later tidy = (tidy.0, tidy.1, tidy_begins (next map e.call) history later tidy.2)
 
 rows_found : (state : KeyState) (rows : List Row) → find_reply state ≡ reply.Rows rows → id_set_of state ≡ set_told rows
-rows_found (Hole n) rows is = absurd (cc (is))
-rows_found (Asked n) rows is = absurd (cc (is))
 rows_found (Rows n old) rows is = ap set_told (cc (is))
+rows_found state rows is = absurd (cc (is))
 
 -- a find that answers with an id's tag answers the rows that the id has then
 pub finds_resident : (keys bound number : ℕ) (history : List Entry) (e : Entry) (key id : ℕ) (rows : List Row)

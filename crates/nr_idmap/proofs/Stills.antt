@@ -1,8 +1,9 @@
 -- What readers' entries leave: each key is as it was, but that a hole may be asked for. So names and sets agree still,
 -- and the same upqueries are open.
-use Rattle.std.proofs.Common.{◌≡◌, ◌≢◌, ℕ, ◌<◌, ◌⊎◌, ⊎_elim, inl, inr, Bool, true, false, cond, ◌==◌, List, [], ◌∷◌}
+use Rattle.std.proofs.Common.{◌≡◌, ◌≢◌, ℕ, ◌<◌, ◌⊎◌, ⊎_elim, inl, inr, Bool, true, cond, ◌==◌, List, [], ◌∷◌}
 use Rattle.std.proofs.Common.{refl, sym, ◌∙◌, subst, arith, eq-eqb}
 use Rattle.std.proofs.lemmas.Bool.{cases_eq}
+use Rattle.std.proofs.lemmas.Bool.Decides.{nat_tests}
 use Rattle.std.proofs.lemmas.List.{length-set}
 use Rattle.nr_model.specs.declared.calls.Call.{Call}
 use Rattle.nr_model.specs.declared.calls.Call.TheVariants.{Find, Ask}
@@ -45,8 +46,7 @@ reading_keeps map (Ask key) answer reads = tt
 reading_keeps map call answer reads = absurd (cc (reads))
 
 left_of : (b : Bool) (e : Entry) (log : List Entry) → cond b (e ∷ log) log ≡ [] → log ≡ []
-left_of true e log none = absurd (cc (none))
-left_of false e log none = none
+left_of b e log none = grind (arith, nat_tests)
 
 -- an entry that isn't the writer's reads
 reads_of : (shape : Shape) (e : Entry) (log : List Entry) → IsCallers shape e → entries_of (e ∷ log) 0 ≡ []
@@ -64,9 +64,8 @@ others_still shape (e ∷ log) map way callers none size =
     let reads = reads_of shape e log callers.0 none in
     let near : call_key e.call < key_count map = omega (arith, callers.0.0, size) in
     let one : IsStill (state_of map way) (state_of (next map e.call) way) = ⊎_elim
-    (λ (same : call_key e.call ≡ way). subst (λ (k : ℕ). IsStill (state_of map k) (state_of (next map e.call) k)) same
-    (subst (IsStill (state_of map (call_key e.call))) (sym (state_of-next_same map e.call near))
-    (reading_still map.bound e.call (state_of map (call_key e.call)) reads)))
+    (λ (same : call_key e.call ≡ way). rw (← same, state_of-next_same map e.call near)
+    (reading_still map.bound e.call (state_of map (call_key e.call)) reads))
     (λ (other : call_key e.call ≢ way). inl (state_of-next_other map way e.call other))
     (cases_eq (call_key e.call) way) in
     still_on one

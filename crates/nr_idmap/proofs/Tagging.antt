@@ -6,6 +6,7 @@ use Rattle.std.specs.List.{list_any, filter}
 use Rattle.std.specs.Prelude.{All, nat_lt, map}
 use Rattle.std.proofs.lemmas.Bool.{cases_Bool, cases_lt}
 use Rattle.std.proofs.lemmas.Bool.Decides.{nat_tests}
+use Rattle.std.proofs.lemmas.List.Elements.{All-tail}
 use Rattle.nr_model.specs.declared.rows.Row.{Row}
 use Rattle.nr_model.specs.declared.batches.Delta.{Delta}
 use Rattle.nr_model.specs.declared.batches.ApplyFault.{ApplyFault}
@@ -43,15 +44,13 @@ with_all_behind : (more rows : List Row) (first : Row) → Above first more
     → with_all (first ∷ rows) more ≡ first ∷ with_all rows more
 with_all_behind [] rows first above = refl
 with_all_behind (row ∷ more) rows first above =
-    ap (λ (l : List Row). with_all l more) (with_behind rows row first above.0)
-    ∙ with_all_behind more (with_row rows row) first above.1
+    rw (with_behind rows row first above.0) (with_all_behind more (with_row rows row) first above.1)
 
 without_all_behind : (less rows : List Row) (first : Row) → Above first less
     → without_all (first ∷ rows) less ≡ first ∷ without_all rows less
 without_all_behind [] rows first above = refl
 without_all_behind (row ∷ less) rows first above =
-    ap (λ (l : List Row). without_all l less) (without_behind rows row first above.0)
-    ∙ without_all_behind less (without_row rows row) first above.1
+    rw (without_behind rows row first above.0) (without_all_behind less (without_row rows row) first above.1)
 
 abbrev one : Bool → ℕ
 one b = cond b 1 0
@@ -70,23 +69,14 @@ short_behind : (rows less : List Row) (first : Row) → Above first less
 short_behind rows less first above = any_same _ _ less first above
     (λ row a. ap (λ (n : ℕ). nat_lt n (count_of less row)) (count_behind rows row first a))
 
--- of deltas that are all behind, the first is and the others are
-first_behind : (first : Row) (delta : Delta) (batch : List Delta) → IsBehind first (delta ∷ batch)
-    → first.a < delta.row.a
-first_behind first delta batch behind = behind 0 delta (omega arith)
-
-others_behind : (first : Row) (delta : Delta) (batch : List Delta) → IsBehind first (delta ∷ batch)
-    → IsBehind first batch
-others_behind first delta batch behind = λ place d low. behind (suc place) d (omega arith)
-
 filtered_above : (keeps : Delta → Bool) (first : Row) (batch : List Delta) → IsBehind first batch
     → Above first (map (λ (d : Delta). d.row) (filter keeps batch))
 filtered_above keeps first [] behind = tt
 filtered_above keeps first (delta ∷ batch) behind =
-    let rest = filtered_above keeps first batch (others_behind first delta batch behind) in
+    let rest = filtered_above keeps first batch (All-tail (λ d. first.a < d.row.a) delta batch behind) in
     elim (keeps delta) as
     (λ b. Above first (map (λ (d : Delta). d.row) (cond b (delta ∷ filter keeps batch) (filter keeps batch)))) [
-      | true ↦ (first_behind first delta batch behind, rest)
+      | true ↦ (behind 0 delta (omega arith), rest)
       | false ↦ rest
     ]
 

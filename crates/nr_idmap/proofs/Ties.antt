@@ -1,8 +1,9 @@
 -- The tie between the two tables, and the ledger, over a call on one way: the other ways keep theirs.
-use Rattle.std.proofs.Common.{◌≡◌, ◌≢◌, ℕ, zero, suc, ◌<◌, ⊎_elim, inl, Bool, true, false, ◌==◌, List, ◌∷◌, refl, sym}
-use Rattle.std.proofs.Common.{ap, ◌∙◌, arith, ne_eqb, eq-eqb, Result, Ok, Err, Option, Some, None}
+use Rattle.std.proofs.Common.{◌≡◌, ◌≢◌, ℕ, zero, suc, ◌<◌, ⊎_elim, inl, true, false, ◌==◌, List, ◌∷◌, refl, sym}
+use Rattle.std.proofs.Common.{ap, ◌∙◌, arith, eq-eqb, Result, Ok, Err, Option, Some, None}
 use Rattle.std.specs.Prelude.{if◌then◌else◌}
 use Rattle.std.proofs.lemmas.Bool.{cases_eq}
+use Rattle.std.proofs.lemmas.Bool.Decides.{nat_tests}
 use Rattle.nr_model.specs.declared.rows.Row.{Row}
 use Rattle.nr_model.specs.declared.batches.Delta.{Delta}
 use Rattle.nr_model.specs.declared.batches.ApplyFault.{ApplyFault}
@@ -36,11 +37,10 @@ use Rattle.nr_idmap.proofs.Tagging.{applied_behind, put_first}
 -- a key's set has its way's name
 pub set_named : (name : ℕ) (state : KeyState) (set : IdSet) → Agrees name state → id_set_of state ≡ Some set
     → (0 < name) × (set.id ≡ name)
-set_named name (Hole n) set agrees there = absurd (cc (there))
-set_named name (Asked n) set agrees there = absurd (cc (there))
 set_named name (Rows n rows) set agrees there =
     let same : record { id = name; rows = agrees.1 } ≡ set = cc (ap set_told agrees.2, there) in
     (agrees.0, ap (λ (s : IdSet). s.id) (sym same))
+set_named name state set agrees there = absurd (cc (there))
 
 pub owed_none : (way name number : ℕ) (rows : List Row) → owed_for way name (Rows number rows) ≡ None
 owed_none way zero number rows = refl
@@ -57,21 +57,13 @@ owed_asked way (suc name) number real = refl
 
 -- a fill is done where the key was asked for with its number, and else leaves the key
 pub fill_done : (number : ℕ) (state : KeyState) → fill_reply number state ≡ reply.Done → state ≡ Asked number
-fill_done number (Hole n) done = absurd (cc (done))
-fill_done number (Asked n) done = ⊎_elim
-    (λ (same : n ≡ number). ap Asked same)
-    (λ (other : n ≢ number). absurd (cc (rw (ne_eqb n number other) at done)))
-    (cases_eq n number)
-fill_done number (Rows n rows) done = absurd (cc (done))
+fill_done number (Asked n) done = grind (arith, nat_tests)
+fill_done number state done = absurd (cc (done))
 
 pub fill_leaves : (number : ℕ) (rows : List Row) (state : KeyState) → fill_reply number state ≢ reply.Done →
     filled number rows state ≡ state
-fill_leaves number rows (Hole n) undone = refl
-fill_leaves number rows (Asked n) undone = ⊎_elim
-    (λ (same : n ≡ number). absurd (undone (rw (eq-eqb n number same) refl)))
-    (λ (other : n ≢ number). rw (ne_eqb n number other) refl)
-    (cases_eq n number)
-fill_leaves number rows (Rows n old) undone = refl
+fill_leaves number rows (Asked n) undone = grind (arith, nat_tests)
+fill_leaves number rows state undone = refl
 
 pub fill_puts : (number : ℕ) (rows : List Row) (state : KeyState) → state ≡ Asked number
     → filled number rows state ≡ Rows number rows
@@ -81,16 +73,11 @@ fill_puts number rows state is = rw (is, eq-eqb number number refl) refl
 abbrev pub Tagged : ℕ → List Row → Type 0
 Tagged name set = (0 < name) × (others : List Row) × (set ≡ tag_of name ∷ others)
 
-if_filled : (b : Bool) (name n : ℕ) (rows : List Row) → Tagged name rows
-    → Agrees name (if b then Rows n rows else Asked n)
-if_filled true name n rows tagged = tagged
-if_filled false name n rows tagged = tt
-
 pub fill_agrees : (name number : ℕ) (rows : List Row) (state : KeyState) → Tagged name rows → Agrees name state →
     Agrees name (filled number rows state)
-fill_agrees name number rows (Hole n) tagged agrees = agrees
-fill_agrees name number rows (Asked n) tagged agrees = if_filled (n == number) name n rows tagged
-fill_agrees name number rows (Rows n old) tagged agrees = agrees
+fill_agrees name number rows (Asked n) tagged agrees =
+    elim (n == number) as (λ b. Agrees name (if b then Rows n rows else Asked n)) [ true ↦ tagged | false ↦ tt ]
+fill_agrees name number rows state tagged agrees = agrees
 
 pub replace_agrees : (name : ℕ) (rows : List Row) (state : KeyState) → Tagged name rows → Agrees name state →
     Agrees name (replaced rows state)
@@ -100,16 +87,14 @@ replace_agrees name rows (Rows n old) tagged agrees = tagged
 
 pub replace_owes : (way name : ℕ) (rows : List Row) (state : KeyState)
     → owed_for way name (replaced rows state) ≡ owed_for way name state
-replace_owes way name rows (Hole n) = refl
-replace_owes way name rows (Asked n) = refl
 replace_owes way name rows (Rows n old) = owed_none way name n rows ∙ sym (owed_none way name n old)
+replace_owes way name rows state = refl
 
 pub update_owes : (way name bound : ℕ) (batch : List Delta) (state : KeyState) →
     owed_for way name (updated bound batch state) ≡ owed_for way name state
-update_owes way name bound batch (Hole n) = refl
-update_owes way name bound batch (Asked n) = refl
 update_owes way name bound batch (Rows n old) = owed_none way name n (rows_or (applied bound old batch) old)
     ∙ sym (owed_none way name n old)
+update_owes way name bound batch state = refl
 
 behind : (id : ℕ) (old : List Row) (r : Result (List Row) ApplyFault)
     → rows_or (put_first (tag_of id) r) (tag_of id ∷ old) ≡ tag_of id ∷ rows_or r old
@@ -136,9 +121,8 @@ module _ (plan : Plan) (log : List Event) (legal : IsLegal plan log) (mid : Part
   where
     filled_undone : (number : ℕ) (state : KeyState) (set : IdSet) → id_set_of state ≡ Some set
         → fill_reply number state ≢ reply.Done
-    filled_undone number (Hole n) set there done = absurd (cc (there))
-    filled_undone number (Asked n) set there done = absurd (cc (there))
     filled_undone number (Rows n old) set there done = absurd (cc (done))
+    filled_undone number state set there done = absurd (cc (there))
 
     pub fill_keeps : (number : ℕ) {answer : Reply} → answer ≡ reply_to mid (Fill way number rows) →
         KeepsTags mid (Fill way number rows) answer

@@ -44,15 +44,13 @@ kept_reads way old new before set (inr anew) = (_, inr (anew.0, anew.1.0))
 
 -- one that goes on holds a set of the way, for no id
 pub held_id : (way : ℕ) (answer : Tagged) → id_held (held_kept way answer) ≡ id_kept answer
-held_id way tagged.Rows = refl
-held_id way tagged.Other = refl
 held_id way tagged.Hole = refl
+held_id way answer = refl
 
 -- whatever it read of the set that it found, and wherever that went
 abbrev pub Keeps : ℕ → Handed → Handed → Tagged → Type 0
-Keeps key old new tagged.Rows = (more : ℕ) × FindsAndReads more key old new
-Keeps key old new tagged.Other = (more : ℕ) × FindsAndReads more key old new
 Keeps key old new tagged.Hole = KeepsAnew key old new false
+Keeps key old new _ = (more : ℕ) × FindsAndReads more key old new
 
 pub kept_so : {Room : Type 0} (shows : Room → List Row → Type 0) (tag : Row) (key : ℕ) (old new : Handed)
     (before room : Room) (answer : Tagged) → FindsTaggedKept shows tag key old before new room answer
@@ -92,6 +90,5 @@ module _ (key : ℕ) (old new : Handed) (sorted : List Row) (near : key < new.re
       record { key_is = reads_key more reads; near = near; row_set = reads_row_set more reads; set = set }
 
   pub walks_hold : (answer : Tagged) → Keeps key old new answer → IsIdHand new sorted (held_kept key answer)
-  walks_hold tagged.Rows keeps = reads_hold 0 keeps.0 keeps.1 (λ some. absurd (omega (arith, some)))
-  walks_hold tagged.Other keeps = reads_hold 0 keeps.0 keeps.1 (λ some. absurd (omega (arith, some)))
   walks_hold tagged.Hole keeps = keeps.1.4.key_is
+  walks_hold answer keeps = reads_hold 0 keeps.0 keeps.1 (λ some. absurd (omega (arith, some)))

@@ -1,7 +1,8 @@
 -- What each call of the map's writer on the id's way does to the tie and to the ledger.
-use Rattle.std.proofs.Common.{◌≡◌, ◌≢◌, ℕ, ◌+◌, ◌<◌, inl, inr, Bool, true, false, List, [], ◌∷◌, refl, sym, ap, ◌∙◌}
+use Rattle.std.proofs.Common.{◌≡◌, ◌≢◌, ℕ, ◌+◌, ◌<◌, inl, inr, true, false, List, [], ◌∷◌, refl, sym, ap, ◌∙◌}
 use Rattle.std.proofs.Common.{subst, arith, eq-eqb, Result, Ok, Err, Option, Some, None}
 use Rattle.std.specs.Prelude.{if◌then◌else◌, nat_lt}
+use Rattle.std.proofs.lemmas.Bool.Decides.{nat_tests}
 use Rattle.nr_model.specs.declared.rows.Row.{Row}
 use Rattle.nr_model.specs.declared.batches.Delta.{Delta}
 use Rattle.nr_model.specs.declared.calls.Call.{Call}
@@ -64,33 +65,22 @@ evict_agrees (Asked n) = tt
 evict_agrees (Rows n rows) = refl
 
 evict_owed : (way name : ℕ) (state : KeyState) → reply.Evicted ≡ evict_reply state → owed_for way name state ≡ None
-evict_owed way name (Hole n) e = absurd (cc (e))
-evict_owed way name (Asked n) e = absurd (cc (e))
 evict_owed way name (Rows n rows) e = owed_none way name n rows
+evict_owed way name state e = absurd (cc (e))
 
 evict_leaves : (state : KeyState) → reply.Nothing ≡ evict_reply state → evicted state ≡ state
-evict_leaves (Hole n) e = refl
-evict_leaves (Asked n) e = refl
 evict_leaves (Rows n rows) e = absurd (cc (e))
-
-if_agrees : (b : Bool) (n : ℕ) → Agrees 0 (if b then Hole (n + 1) else Asked n)
-if_agrees true n = refl
-if_agrees false n = tt
+evict_leaves state e = refl
 
 cancel_agrees : (state : KeyState) → reply.Cancelled ≡ cancel_reply state → Agrees 0 (cancelled state)
 cancel_agrees (Hole n) e = refl
-cancel_agrees (Asked n) e = if_agrees (nat_lt n 4194303) n
+cancel_agrees (Asked n) e =
+    elim (nat_lt n 4194303) as (λ b. Agrees 0 (if b then Hole (n + 1) else Asked n)) [ true ↦ refl | false ↦ tt ]
 cancel_agrees (Rows n rows) e = absurd (cc (e))
 
-if_leaves : (b : Bool) (n : ℕ) → (if b then reply.Cancelled else reply.Worn) ≢ reply.Cancelled →
-    (if b then Hole (n + 1) else Asked n) ≡ Asked n
-if_leaves true n undone = absurd (undone refl)
-if_leaves false n undone = refl
-
 cancel_leaves : (state : KeyState) → cancel_reply state ≢ reply.Cancelled → cancelled state ≡ state
-cancel_leaves (Hole n) undone = refl
-cancel_leaves (Asked n) undone = if_leaves (nat_lt n 4194303) n undone
-cancel_leaves (Rows n rows) undone = refl
+cancel_leaves (Asked n) undone = grind (arith, nat_tests)
+cancel_leaves state undone = refl
 
 -- a cancel that was done, or found the last number, met a request
 cancel_met : (state : KeyState) → cancel_reply state ≢ reply.Nothing → state ≡ Asked (number_of state)
@@ -99,13 +89,9 @@ cancel_met (Asked n) met = refl
 cancel_met (Rows n rows) met = absurd (met refl)
 
 -- one that met none found no upquery
-if_something : (b : Bool) → reply.Nothing ≢ (if b then reply.Cancelled else reply.Worn)
-if_something true e = absurd (cc (e))
-if_something false e = absurd (cc (e))
-
 cancel_unowed : (way name : ℕ) (state : KeyState) → reply.Nothing ≡ cancel_reply state → owed_for way name state ≡ None
 cancel_unowed way name (Hole n) e = owed_hole way name n
-cancel_unowed way name (Asked n) e = absurd (if_something (nat_lt n 4194303) e)
+cancel_unowed way name (Asked n) e = grind (arith, nat_tests)
 cancel_unowed way name (Rows n rows) e = owed_none way name n rows
 
 -- what the search found shows that an upquery isn't open
@@ -142,10 +128,8 @@ module _ {w a : Caller} {c mid new : Token} (tied : IsTied (keeper_of w a c)) (i
 
 -- how a fill by its way's numbers tells of the map's refusal
 abbrev pub fault_told : Sent → FillFault → Unfilled
-fault_told sent fill.NotAsked = unfilled.Closed
-fault_told sent fill.Already = unfilled.Closed
-fault_told sent fill.Stale = unfilled.Closed
 fault_told sent (fill.NoSlot counts) = unfilled.NoSlot sent counts
+fault_told sent _ = unfilled.Closed
 
 abbrev pub fill_told : {Done : Type 0} → Sent → Result Done FillFault → Result Done Unfilled
 fill_told sent (Ok done) = Ok done
@@ -207,9 +191,8 @@ module _ {w a : Caller} {c c' : Token} (tied : IsTied (keeper_of w a c)) (id way
       → AreIdDeltas batch → UpdatesKey bound way batch w w' r → Left w'
   update_left bound batch (Ok done) users h = update_entry batch users h.3.gains
   update_left bound batch (Err update.Dropped) users h = update_entry batch users h.0
-  update_left bound batch (Err update.NoRow) users h = update_entry batch users h.2
-  update_left bound batch (Err update.TooMany) users h = update_entry batch users h.2
   update_left bound batch (Err (update.NoSlot counts)) users h = unslotted h.3.grows
+  update_left bound batch (Err why) users h = update_entry batch users h.2
 
   module _ (real : 0 < id) (rows : List Row) where
     tagged : Tagged (name_of c.seen way) (tag_of id ∷ rows)

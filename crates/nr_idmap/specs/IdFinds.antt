@@ -69,8 +69,7 @@ answer_told tagged.Hole = found.Pending
 
 abbrev pub MarksTold : Tagged → NamedWay → Token → Token → Type 0
 MarksTold tagged.Rows at old new = SetsMark at.way at.is_marked old new
-MarksTold tagged.Other at old new = new ≡ old
-MarksTold tagged.Hole at old new = new ≡ old
+MarksTold _ at old new = new ≡ old
 
 -- a find by id in the way that was looked up: as `find` says it of that way
 abbrev pub FindsInside : {Room : Type 0} → (Room → List Row → Type 0) → ℕ → NamedWay → IdCaller → Room → IdCaller

@@ -36,9 +36,8 @@ id_held (Some held) = Some held.id
 
 -- the rows of the id whose set is held; none where nothing is, or a set for no id, of which the number 0 tells
 abbrev pub rows_of_id : Option ℕ → List Row → List Row
-rows_of_id None set = []
-rows_of_id (Some zero) set = []
 rows_of_id (Some (suc id)) set = rows_behind set
+rows_of_id _ set = []
 
 abbrev pub rows_in_hand : IdHanded → List Row
 rows_in_hand hand = rows_of_id hand.id hand.hand.rows

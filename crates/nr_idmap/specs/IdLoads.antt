@@ -12,8 +12,7 @@ abbrev pub LooksUpEach : List ℕ → List (Option NamedWay) → Token → Token
 LooksUpEach [] [] old new = new ≡ old
 LooksUpEach (id ∷ ids) (at ∷ ways) old new =
     (next : Token) × LooksForWay id old next at × LooksUpEach ids ways next new
-LooksUpEach [] (at ∷ ways) old new = ⊥
-LooksUpEach (id ∷ ids) [] old new = ⊥
+LooksUpEach _ _ old new = ⊥
 
 -- the key of a way, and 0 in place of none
 abbrev pub key_named : Option NamedWay → ℕ

@@ -15,14 +15,12 @@ use Rattle.nr_idmap.specs.Tags.{tag_of}
 
 -- it holds the set that it found for no id, and nothing at a hole
 abbrev pub id_kept : Tagged → Option ℕ
-id_kept tagged.Rows = Some 0
-id_kept tagged.Other = Some 0
 id_kept tagged.Hole = None
+id_kept _ = Some 0
 
 abbrev pub held_kept : ℕ → Tagged → Option Holding
-held_kept way tagged.Rows = Some (record { id = 0; way = way })
-held_kept way tagged.Other = Some (record { id = 0; way = way })
 held_kept way tagged.Hole = None
+held_kept way _ = Some (record { id = 0; way = way })
 
 -- the map's hand finds the id's tag in the way; rows mark it
 pub record WalksTo (finds : Tagged → Type 0) (at : NamedWay) (old new : IdHanded) (told : FoundId) : Type 0 where

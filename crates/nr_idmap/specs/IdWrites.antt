@@ -96,9 +96,8 @@ ReturnsTo table unfilled.Closed = Unit {0}
 ReturnsTo table (unfilled.NoSlot upquery counts) = upquery.table ≡ table
 
 abbrev pub ReturnsWorn : IdTable → Withdrawn → Type 0
-ReturnsWorn table withdrawn.Done = Unit {0}
-ReturnsWorn table withdrawn.Closed = Unit {0}
 ReturnsWorn table (withdrawn.Worn upquery) = upquery.table ≡ table
+ReturnsWorn table _ = Unit {0}
 
 -- the way has the next number, and then no name, and the upquery is closed
 pub record WithdrawsOwed (owed : Owed) (old new : Keeper) : Type 0 where

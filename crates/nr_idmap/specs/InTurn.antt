@@ -7,5 +7,4 @@ abbrev pub InTurn : {State One : Type 0} → (State → One → State → One �
 InTurn call old [] new [] = new ≡ old
 InTurn {State = State} call old (one ∷ ones) new (done ∷ others) =
     (next : State) × call old one next done × InTurn call next ones new others
-InTurn call old [] new (done ∷ others) = ⊥
-InTurn call old (one ∷ ones) new [] = ⊥
+InTurn call old _ new _ = ⊥

@@ -1,6 +1,6 @@
 -- The writer of a map over ids: the map's writer, the directory's clerk and a reader that asks, in one hand. What ties
 -- the two tables, and the ledger of open upqueries.
-use Rattle.std.specs.Prelude.{◌≡◌, ◌≢◌, ℕ, zero, suc, ◌-◌, ◌<◌, List, ◌∷◌, Option, Some, None}
+use Rattle.std.specs.Prelude.{◌≡◌, ◌≢◌, ℕ, suc, ◌-◌, ◌<◌, List, ◌∷◌, Option, Some, None}
 use Rattle.nr_model.specs.declared.rows.Row.{Row}
 use Rattle.nr_model.specs.declared.states.KeyState.{KeyState}
 use Rattle.nr_model.specs.declared.states.KeyState.TheVariants.{Hole, Asked, Rows}
@@ -87,10 +87,8 @@ pub record Sent : Type 0 where
 
 -- a way's open upquery: its key is asked for, and it has a name
 abbrev pub owed_for : ℕ → ℕ → KeyState → Option Owed
-owed_for way zero state = None
-owed_for way (suc name) (Hole number) = None
 owed_for way (suc name) (Asked number) = Some (record { way = way; number = number; id = suc name })
-owed_for way (suc name) (Rows number rows) = None
+owed_for way _ _ = None
 
 abbrev pub owed_at : Keeper → ℕ → Option Owed
 owed_at keeper way = owed_for way (name_at keeper way) (state_at keeper way)

@@ -6,7 +6,7 @@ use Rattle.nr_model.specs.declared.batches.Delta.{Delta}
 use Rattle.nr_model.specs.declared.batches.ApplyFault.{ApplyFault}
 use Rattle.nr_model.specs.declared.batches.ApplyFault.TheVariants as fault
 use Rattle.nr_model.specs.declared.calls.Call.{Call}
-use Rattle.nr_model.specs.declared.calls.Call.TheVariants.{Find, Ask, Fill, Update, Replace, Evict, Cancel}
+use Rattle.nr_model.specs.declared.calls.Call.TheVariants.{Find, Fill, Update, Replace, Evict}
 use Rattle.nr_model.specs.declared.calls.Reply.{Reply}
 use Rattle.nr_model.specs.declared.calls.Reply.TheVariants as reply
 use Rattle.nr_model.specs.Batches.{applied}
@@ -55,27 +55,22 @@ applied_told (Err fault.TooMany) = has_too_many
 
 -- the answer to a call, by what the id has
 abbrev pub id_reply : ℕ → IdCall → Option (List Row) → IdReply
-id_reply bound (find_id id) None = is_absent
 id_reply bound (find_id id) (Some rows) = has_rows rows
 id_reply bound (fill_id id new) None = is_done
 id_reply bound (fill_id id new) (Some rows) = has_some
-id_reply bound (update_id id batch) None = is_absent
 id_reply bound (update_id id batch) (Some rows) = applied_told (applied bound rows batch)
-id_reply bound (replace_id id new) None = is_absent
 id_reply bound (replace_id id new) (Some rows) = is_done
-id_reply bound (evict_id id) None = is_absent
 id_reply bound (evict_id id) (Some rows) = is_evicted
+id_reply bound _ None = is_absent
 
 -- what the id has after it
 abbrev pub id_left : ℕ → IdCall → Option (List Row) → Option (List Row)
 id_left bound (find_id id) had = had
 id_left bound (fill_id id new) None = Some new
 id_left bound (fill_id id new) (Some rows) = Some rows
-id_left bound (update_id id batch) None = None
 id_left bound (update_id id batch) (Some rows) = Some (rows_or (applied bound rows batch) rows)
-id_left bound (replace_id id new) None = None
 id_left bound (replace_id id new) (Some rows) = Some new
-id_left bound (evict_id id) had = None
+id_left bound _ _ = None
 
 -- no call changes another id
 abbrev pub with_id : (ℕ → Option (List Row)) → ℕ → Option (List Row) → ℕ → Option (List Row)
@@ -130,14 +125,13 @@ set_put _ rows = None
 -- what a call of a key is as a call of an id, by the set that the key had: nothing where the key has none and gets none
 abbrev pub call_by_id : ℕ → Call → Reply → Option IdSet → List IdEntry
 call_by_id caller (Find key) answer had = told_of had caller (λ set. find_id set.id) (reply_told answer)
-call_by_id caller (Ask key) answer had = []
 call_by_id caller (Fill key number rows) answer had =
     told_of (set_put answer rows) caller (λ set. fill_id set.id set.rows) (reply_told answer)
 call_by_id caller (Update key batch) answer had = told_of had caller (λ set. update_id set.id batch) (reply_told answer)
 call_by_id caller (Replace key rows) answer had =
     told_of (set_put answer rows) caller (λ set. replace_id set.id set.rows) (reply_told answer)
 call_by_id caller (Evict key) answer had = told_of had caller (λ set. evict_id set.id) (reply_told answer)
-call_by_id caller (Cancel key) answer had = []
+call_by_id caller _ answer had = []
 
 abbrev pub entry_by_id : PartialMap → Entry → List IdEntry
 entry_by_id map e = call_by_id e.caller e.call e.reply (set_at map (call_key e.call))

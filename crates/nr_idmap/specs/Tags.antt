@@ -4,7 +4,7 @@ use Rattle.std.specs.Prelude.{◌≡◌, ◌≢◌, ℕ, ◌<◌, Bool, true, fa
 use Rattle.nr_model.specs.declared.rows.Row.{Row}
 use Rattle.nr_model.specs.declared.batches.Delta.{Delta}
 use Rattle.nr_model.specs.declared.states.KeyState.{KeyState}
-use Rattle.nr_model.specs.declared.states.KeyState.TheVariants.{Hole, Asked, Rows}
+use Rattle.nr_model.specs.declared.states.KeyState.TheVariants.{Rows}
 use Rattle.nr_model.specs.Maps.{PartialMap, state_of}
 use Rattle.nr_model.specs.Rows.{IsRowSet}
 use Rattle.nr_map.specs.Tagged.{IsTagged}
@@ -24,9 +24,8 @@ set_told (tag ∷ rows) = Some (record { id = tag.b; rows = rows })
 
 -- whose rows a key has, and which
 abbrev pub id_set_of : KeyState → Option IdSet
-id_set_of (Hole number) = None
-id_set_of (Asked number) = None
 id_set_of (Rows number rows) = set_told rows
+id_set_of _ = None
 
 abbrev pub set_at : PartialMap → ℕ → Option IdSet
 set_at map key = id_set_of (state_of map key)

@@ -2,7 +2,7 @@
 use Rattle.std.specs.Prelude.{◌≡◌, ◌≢◌, ℕ, ◌<◌, List, [], ◌∷◌, Some}
 use Rattle.nr_model.specs.declared.rows.Row.{Row}
 use Rattle.nr_model.specs.declared.calls.Call.{Call}
-use Rattle.nr_model.specs.declared.calls.Call.TheVariants.{Find, Ask, Fill, Update, Replace, Evict, Cancel}
+use Rattle.nr_model.specs.declared.calls.Call.TheVariants.{Fill, Update, Replace}
 use Rattle.nr_model.specs.declared.calls.Reply.{Reply}
 use Rattle.nr_model.specs.declared.calls.Reply.TheVariants as reply
 use Rattle.nr_model.specs.Histories.{Entry}
@@ -28,13 +28,10 @@ pub record BringsSameId (map : PartialMap) (key : ℕ) (rows : List Row) : Type 
   pub same : (set : IdSet) → set_at map key ≡ Some set → set.id ≡ id
 
 abbrev pub KeepsTags : PartialMap → Call → Reply → Type 0
-KeepsTags map (Find key) answer = Unit {0}
-KeepsTags map (Ask key) answer = Unit {0}
 KeepsTags map (Fill key number rows) answer = answer ≡ reply.Done → BringsNewId map rows
 KeepsTags map (Update key batch) answer = AreIdDeltas batch
 KeepsTags map (Replace key rows) answer = answer ≡ reply.Done → BringsSameId map key rows
-KeepsTags map (Evict key) answer = Unit {0}
-KeepsTags map (Cancel key) answer = Unit {0}
+KeepsTags map _ answer = Unit {0}
 
 -- each call is of a key of the map, and keeps to it
 abbrev pub IsTidy : PartialMap → List Entry → Type 0

@@ -1,9 +1,9 @@
-use Rattle.std.proofs.Common.{rules, ◌<◌, ◌≤◌, ◌∙◌, Some, Option, ap, subst, sym}
+use Rattle.std.proofs.Common.{rules, ◌<◌, ◌≤◌, ◌∙◌, Some, Option, ap, subst}
 use Rattle.nr_model.specs.declared.rows.Row.{Row}
 use Rattle.nr_map.specs.FirstRows.{FindsTaggedFirst}
 use Rattle.nr_idmap.specs.declared.hands.Holding.{Holding}
-use Rattle.nr_idmap.specs.IdHands.{IdHanded, IsIdHand, id_held}
-use Rattle.nr_idmap.specs.IdWalks.{FindsFirstOn, IsNear}
+use Rattle.nr_idmap.specs.IdHands.{IdHanded, id_held}
+use Rattle.nr_idmap.specs.IdWalks.{FindsFirstOn}
 use Rattle.nr_idmap.proofs.Walking.{held_id, held_row_set, kept_first, walks_hold}
 use Rattle.nr_idmap.proofs.hands.IdHand.find_first_in.Goals as goal
 
@@ -13,11 +13,10 @@ invariant_of-self c =
     let at = c.in-Some.at in
     let old = c.self.inside.hand in
     let sorted = c.self.inside.sorted in
-    let near : at.way < c.args.map.now.map.shape.keys
-    = subst (IsNear c.args.map.now.map.shape.keys) c.in-Some.is c.requires.near in
+    let near : at.way < c.args.map.now.map.shape.keys = rw c.in-Some.is at c.requires.near in
     let inside : at.way < found.new.self.reader.table.shape.keys = search rules in
     let few : old.reader.table.shape.rows ≤ 255 = search rules in
-    subst (IsIdHand found.new.self sorted) (sym c.held_then-self-inside.ensures)
+    rw c.held_then-self-inside.ensures
     (walks_hold at.way old found.new.self sorted inside few
     (held_row_set old sorted c.self.inside.held c.self.invariant) found.result.0
     (kept_first c.tag_of.result at.way old found.new.self c.args.cells.now found.new.cells found.result.1

@@ -1,12 +1,11 @@
-use Rattle.std.proofs.Common.{ℕ, ◌≡◌, ◌+◌, ◌-◌, ◌*◌, ◌/◌, ◌<◌, ◌++◌, ◌∙◌, List, [], ap, arith, drop, length, min, subst}
+use Rattle.std.proofs.Common.{ℕ, ◌≡◌, ◌+◌, ◌-◌, ◌*◌, ◌/◌, ◌<◌, ◌++◌, ◌∙◌, List, [], ap, arith, drop, length, min}
 use Rattle.std.proofs.Common.{sym, take}
 use Rattle.std.proofs.lemmas.Grind.{div_ceil_times}
 use Rattle.std.proofs.lemmas.List.{drop-drop}
 use Rattle.nr_idmap.specs.declared.wanted.WantedId.{WantedId}
 use Rattle.nr_idmap.specs.IdFindsEach.{FindsBatch, FindsNext, batches, in_sixteens}
-use Rattle.nr_idmap.specs.InTurn.{InTurn}
 use Rattle.nr_idmap.proofs.Batches.{batch_at, batch_put, many_batches, put_long, rest_put, slice_is}
-use Rattle.nr_idmap.proofs.InTurn.{Made, all_made, in_turn_long, one_more}
+use Rattle.nr_idmap.proofs.InTurn.{all_made, in_turn_long, one_more}
 use Rattle.nr_idmap.proofs.id_map.IdMap.find_batches.Goals as goal
 
 pub loop-batch-preserved : goal.loop-batch-preserved
@@ -25,8 +24,7 @@ loop-batch-preserved g c =
     let batch : List (WantedId g.row.R.Denot) = take 16 (drop begin ones) in
     let next = c.find_batch.new.hand in let found : List (WantedId g.row.R.Denot) = c.find_batch.new.wanted in
     let finds : FindsBatch shows c.loop-batch.hand batch next found
-    = subst (λ (l : List (WantedId g.row.R.Denot)). FindsBatch shows c.loop-batch.hand l next found)
-    (slice_is at end ones near ends) c.find_batch.ensures.finds in
+    = rw (slice_is at end ones near ends) at c.find_batch.ensures.finds in
     let long : length found ≡ length batch
     = in_turn_long (FindsNext shows) (finds.ready, finds.ways) batch (next, []) found finds.finds in
     let more
@@ -40,11 +38,7 @@ loop-batch-preserved g c =
           ap (λ (n : ℕ). drop n (take begin ones ++ (found ++ drop (end - begin) (drop begin ones)))) (omega arith)
           ∙ rest_put at end ones near ends found long ∙ sym (drop-drop 16 begin ones)
           ∙ ap (drop 16) had.rest ∙ drop-drop 16 begin wanted ∙ ap (λ (n : ℕ). drop n wanted) (omega arith);
-      made =
-          subst
-          (λ (l : List (List (WantedId g.row.R.Denot))). Made (FindsBatch shows) first (in_sixteens wanted) (at + 1)
-          next l)
-          (sym (batch_put at end ones near ends count found below long)) more;
+      made = rw (batch_put at end ones near ends count found below long) more;
     }
 
 pub returns-clause-finds : goal.returns-clause-finds
@@ -56,10 +50,7 @@ returns-clause-finds g c =
     let had = c.loop-batch.invariant in
     let count : ℕ = (length wanted + 15) / 16 in
     let bounds = div_ceil_times (length wanted) 16 (omega arith) in
-    subst
-    (λ (n : ℕ). InTurn (FindsBatch shows) first (in_sixteens wanted) c.loop-batch.hand
-    (batches ((n + 15) / 16) ones))
-    (sym had.long)
+    rw had.long
     (all_made (FindsBatch shows) first (in_sixteens wanted) c.loop-batch.batch c.loop-batch.hand (batches count ones)
     had.made
     (omega (arith, many_batches count ones, bounds.0, bounds.1, c.div_ceil-batch-end.ensures, c.loop-batch-test.false)))

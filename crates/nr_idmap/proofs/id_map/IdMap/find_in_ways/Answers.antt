@@ -3,7 +3,6 @@ use Rattle.std.proofs.lemmas.List.{drop_all, drop_more}
 use Rattle.nr_idmap.specs.declared.finds.NamedWay.{NamedWay}
 use Rattle.nr_idmap.specs.declared.wanted.WantedId.{WantedId}
 use Rattle.nr_idmap.specs.IdFindsEach.{FindsNext, FindsWantedId}
-use Rattle.nr_idmap.specs.InTurn.{InTurn}
 use Rattle.nr_idmap.proofs.InTurn.{all_made, one_more}
 use Rattle.nr_idmap.proofs.id_map.IdMap.find_in_ways.Goals as goal
 
@@ -28,9 +27,7 @@ loop-place-preserved g c =
       made =
           one_more (FindsNext shows) (c.args.hand.now, ways) wanted place (hand, drop place ways) ones had one low
           c.index-wanted-place.is (next, drop (place + 1) ways) done
-          (subst
-          (λ (left : List (Option NamedWay)). FindsNext shows (hand, left) one (next, drop (place + 1) ways) done)
-          (sym (drop_more ways place None near)) (refl, finds));
+          (rw (drop_more ways place None near) (refl, finds));
     }
 
 pub returns-clause-finds : goal.returns-clause-finds
@@ -41,9 +38,6 @@ returns-clause-finds g c =
     let wanted : List (WantedId g.row.R.Denot) = c.args.wanted.now in
     let ones : List (WantedId g.row.R.Denot) = c.loop-place.wanted in
     let had = c.loop-place.invariant.made in
-    subst
-    (λ (left : List (Option NamedWay)). InTurn (FindsNext shows) (c.args.hand.now, ways) wanted
-    (c.loop-place.hand, left) ones)
-    (drop_all place ways (omega (arith, c.loop-place-test.false)))
-    (all_made (FindsNext shows) (c.args.hand.now, ways) wanted place (c.loop-place.hand, drop place ways) ones had
+    rw (drop_all place ways (omega (arith, c.loop-place-test.false)))
+    at (all_made (FindsNext shows) (c.args.hand.now, ways) wanted place (c.loop-place.hand, drop place ways) ones had
     (omega (arith, c.loop-place-test.false, c.requires.as_many, had.long)))

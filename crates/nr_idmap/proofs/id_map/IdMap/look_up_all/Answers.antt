@@ -5,7 +5,7 @@ use Rattle.std.proofs.lemmas.List.Elements.{All-set, All-take}
 use Rattle.nr_ids.specs.declared.plan.Plan.{Plan}
 use Rattle.nr_ids.specs.Groups.{ways}
 use Rattle.nr_idmap.specs.declared.finds.NamedWay.{NamedWay}
-use Rattle.nr_idmap.specs.IdLoads.{LooksUpEach, key_named, keys_named}
+use Rattle.nr_idmap.specs.IdLoads.{key_named, keys_named}
 use Rattle.nr_idmap.specs.IdWalks.{IsNear}
 use Rattle.nr_idmap.specs.Keepers.{IdTable}
 use Rattle.nr_idmap.proofs.LookUps.{keys_inside, one_more_looked}
@@ -26,10 +26,7 @@ loop-place-preserved c =
     let deep : place < length keys = omega (arith, low, c.requires.few, had.as_long) in
     let ways_more = take_more_set ways place found far in record {
       own = c.look_up-at.ensures.own;
-      looks =
-          subst
-          (λ (p : List ℕ × List (Option NamedWay)). LooksUpEach p.0 p.1 c.args.reader.now c.look_up-at.new.ids)
-          (λ j. (sym (take_more ids place 0 low) j, sym ways_more j))
+      looks = rw (take_more ids place 0 low, ways_more)
           (one_more_looked (take place ids) (take place ways) id found c.args.reader.now c.loop-place.reader
           c.look_up-at.new.ids had.looks c.look_up-at.ensures.looks);
       near = All-set (IsNear c.args.self.now.map.shape.keys) ways place found

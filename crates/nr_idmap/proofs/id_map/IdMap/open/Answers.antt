@@ -1,12 +1,10 @@
-use Rattle.std.proofs.Common.{◌≡◌, List, [], length, ap, sym, subst, ◌∙◌, arith}
-use Rattle.nr_core.specs.declared.shape.Shape.{Shape}
+use Rattle.std.proofs.Common.{◌≡◌, List, [], length, ap, ◌∙◌, arith}
 use Rattle.nr_ids.specs.Groups.{ways}
 use Rattle.nr_ids.specs.Tokens.{Opened, Token}
 use Rattle.nr_map.specs.Opened.{IsOpened, words_of_large}
 use Rattle.nr_idmap.specs.IdOpenings.{pairs_from, shape_of}
 use Rattle.nr_board.specs.Callers.{Caller}
-use Rattle.std.specs.Prelude.{All}
-use Rattle.nr_idmap.specs.Keepers.{IdCaller, id_table_of}
+use Rattle.nr_idmap.specs.Keepers.{IdCaller}
 use Rattle.nr_idmap.proofs.Opening.{opened_tied, others_own, pairs_count, pairs_own, rest_count}
 use Rattle.nr_idmap.proofs.id_map.IdMap.open.Goals as goal
 
@@ -18,8 +16,7 @@ opened : (c : goal.After-new)
     → IsOpened (shape_of c.args.shape.now) (words_of_large (shape_of c.args.shape.now)) c.in-Ok.map c.in-Ok.writer
     c.in-Ok.readers.items
 opened c =
-    subst (λ (s : Shape). IsOpened s (words_of_large s) c.in-Ok.map c.in-Ok.writer c.in-Ok.readers.items)
-    c.of_map.ensures.value c.in-Ok.ensures.ok
+    rw c.of_map.ensures.value at c.in-Ok.ensures.ok
 
 pub invariant_of-writer : goal.invariant_of-writer
 invariant_of-writer c =
@@ -46,11 +43,7 @@ returns-clause-ok c =
         rest_count (shape_of c.args.shape.now) (words_of_large (shape_of c.args.shape.now))
             c.in-Ok.map c.in-Ok.writer c.in-Some.asker c.in-Ok.readers.items rest (opened c) c.in-Some.ensures.items,
       );
-      own =
-          subst
-          (λ (l : List IdCaller). All
-          (λ reader. id_table_of reader ≡ record { map = c.in-Ok.map; directory = directory }) l)
-          (sym pairs)
+      own = rw pairs
           (pairs_own c.in-Ok.map directory 0 rest
           (others_own c.in-Ok.map c.in-Ok.readers.items rest c.in-Some.asker c.in-Some.ensures.items (opened c).own));
       writes = (let table = ap (λ (w : Caller). w.table) (opened c).writes in
