@@ -2,7 +2,7 @@
 use Rattle.std.proofs.Common.{◌≡◌, ℕ, suc, ◌+◌, ◌<◌, List, [], ◌∷◌, ◌++◌, length, refl}
 use Rattle.std.proofs.Common.{sym, ap, ◌∙◌, subst, arith, length-append, Some}
 use Rattle.std.specs.Prelude.{All, slice_get}
-use Rattle.std.proofs.lemmas.List.Elements.{All-cons, All-tail}
+use Rattle.std.proofs.lemmas.List.Elements.{All-cons, All-pop, All-tail}
 use Rattle.nr_model.specs.Histories.{Entry, entries_of}
 use Rattle.nr_core.specs.declared.shape.Shape.{Shape}
 use Rattle.nr_core.specs.Marks.{no_marks}
@@ -75,13 +75,7 @@ pairs_own map directory made (reader ∷ readers) own =
     (λ i. record { map = here i; directory = directory })
     (pairs_own map directory (made + 1) readers (All-tail (λ (r : Caller). r.table ≡ map) reader readers own))
 
-all_front : (map : Table) (l : List Caller) (last : Caller) → All (λ reader. reader.table ≡ map) (l ++ last ∷ []) →
-    All (λ reader. reader.table ≡ map) l
-all_front map [] last all = λ place d low. absurd (omega arith)
-all_front map (x ∷ l) last all = All-cons (λ (r : Caller). r.table ≡ map) x l (all 0 x (omega arith))
-    (all_front map l last (All-tail (λ (r : Caller). r.table ≡ map) x (l ++ last ∷ []) all))
-
 pub others_own : (map : Table) (mapped rest : List Caller) (asker : Caller) → mapped ≡ rest ++ asker ∷ [] →
     All (λ reader. reader.table ≡ map) mapped → All (λ reader. reader.table ≡ map) rest
-others_own map mapped rest asker asks own = all_front map rest asker
-    (rw asks at own)
+others_own map mapped rest asker asks own =
+    (All-pop (λ (r : Caller). r.table ≡ map) mapped rest (Some asker) asks own).0

@@ -46,10 +46,6 @@ pub owed_none : (way name number : ℕ) (rows : List Row) → owed_for way name 
 owed_none way zero number rows = refl
 owed_none way (suc name) number rows = refl
 
-pub owed_hole : (way name number : ℕ) → owed_for way name (Hole number) ≡ None
-owed_hole way zero number = refl
-owed_hole way (suc name) number = refl
-
 pub owed_asked : (way name number : ℕ) → 0 < name →
     owed_for way name (Asked number) ≡ Some (record { way = way; number = number; id = name })
 owed_asked way zero number real = absurd (omega arith)

@@ -1,6 +1,6 @@
 -- What each call of the map's writer on the id's way does to the tie and to the ledger.
-use Rattle.std.proofs.Common.{◌≡◌, ◌≢◌, ℕ, ◌+◌, ◌<◌, inl, inr, true, false, List, [], ◌∷◌, refl, sym, ap, ◌∙◌}
-use Rattle.std.proofs.Common.{subst, arith, eq-eqb, Result, Ok, Err, Option, Some, None}
+use Rattle.std.proofs.Common.{◌≡◌, ◌≢◌, ℕ, zero, suc, ◌+◌, ◌<◌, inl, inr, true, false, List, [], ◌∷◌, refl, sym, ap}
+use Rattle.std.proofs.Common.{◌∙◌, subst, arith, eq-eqb, Result, Ok, Err, Option, Some, None}
 use Rattle.std.specs.Prelude.{if◌then◌else◌, nat_lt}
 use Rattle.std.proofs.lemmas.Bool.Decides.{nat_tests}
 use Rattle.nr_model.specs.declared.rows.Row.{Row}
@@ -39,7 +39,7 @@ use Rattle.nr_idmap.proofs.Entries.{Rested, Went, stayed, went}
 use Rattle.nr_idmap.proofs.LedgerLaws.{owed_tells}
 use Rattle.nr_idmap.proofs.Stills.{IsStill, by_still}
 use Rattle.nr_idmap.proofs.Ties.{Leaves, Tagged, fill_agrees, fill_done, fill_keeps, fill_leaves, fill_puts}
-use Rattle.nr_idmap.proofs.Ties.{found_leaves, found_names, mid_agrees, mid_owes, near_of, owed_asked, owed_hole}
+use Rattle.nr_idmap.proofs.Ties.{found_leaves, found_names, mid_agrees, mid_owes, near_of, owed_asked}
 use Rattle.nr_idmap.proofs.Ties.{owed_none, replace_agrees, replace_keeps, replace_owes, rested_of, retied, stays_tied}
 use Rattle.nr_idmap.proofs.Ties.{update_agrees, update_owes, went_agrees, went_else, went_owes}
 
@@ -90,7 +90,8 @@ cancel_met (Rows n rows) met = absurd (met refl)
 
 -- one that met none found no upquery
 cancel_unowed : (way name : ℕ) (state : KeyState) → reply.Nothing ≡ cancel_reply state → owed_for way name state ≡ None
-cancel_unowed way name (Hole n) e = owed_hole way name n
+cancel_unowed way zero (Hole n) e = refl
+cancel_unowed way (suc name) (Hole n) e = refl
 cancel_unowed way name (Asked n) e = grind (arith, nat_tests)
 cancel_unowed way name (Rows n rows) e = owed_none way name n rows
 

@@ -328,7 +328,8 @@ module _ {way : ℕ} {old mid new : Token} (clerk : old.number ≡ 0) (takes : G
   pub unhinted : Grows
       (touched old.number (hinted (group_of_way way) hint.hints) ∷ looked old.number ∷ unnamed way ∷ []) old new
   unhinted =
-      grows_next (λ by. touched by (hinted (group_of_way way) hint.hints) ∷ looked by ∷ []) old mid new _ takes hint.grows
+      grows_next (λ by. touched by (hinted (group_of_way way) hint.hints) ∷ looked by ∷ []) old mid new _ takes
+      hint.grows
 
   pub unnamed_of_names : HintsNames old → HintsNames new
   unnamed_of_names were = of_names old new unhinted.directory were (λ other. dite (ℕ_discrete way other)
