@@ -1,10 +1,9 @@
 -- What a history has of each key, summed over all keys; and that a beginning which is at least and at most is all.
-use Rattle.std.proofs.Common.{◌≡◌, ◌≢◌, ℕ, ◌+◌, ◌&&◌, Bool, false, cond, List, [], ◌∷◌, ◌++◌, get_or, length, refl, sym}
-use Rattle.std.proofs.Common.{ap, ◌∙◌, arith, append-nil, length-append, ne_eqb}
+use Rattle.std.proofs.Common.{◌≡◌, ◌≢◌, ℕ, ◌+◌, ◌&&◌, Bool, false, cond, List, [], ◌∷◌, get_or, length, refl, ap, arith}
+use Rattle.std.proofs.Common.{append-nil, length-append}
 use Rattle.std.specs.List.{count_by}
+use Rattle.std.proofs.lemmas.List.{nil_from_length}
 use Rattle.nr_model.proofs.HistoryLemmas.{count_by-cons, sends_are_answered_lem}
-use Rattle.nr_model.specs.declared.calls.Call.{Call}
-use Rattle.nr_model.specs.declared.calls.Call.TheVariants as model
 use Rattle.nr_model.specs.declared.states.KeyState.{KeyState}
 use Rattle.nr_model.specs.declared.states.KeyState.TheVariants as states
 use Rattle.nr_model.specs.Histories.{Entry, asks, cancels, cancels_key, fills, fills_key, is_cancelled, is_done}
@@ -50,18 +49,6 @@ by_states f [] = refl
 by_states f (state ∷ l) =
     omega (arith, below-first (λ key. f (get_or (state ∷ l) key (states.Hole 0))) (length l), by_states f l)
 
-asks_other : (key : ℕ) (call : Call) (b : Bool) → key ≢ call_key call → (asks key call && b) ≡ false
-asks_other key (model.Ask k) b other = ap (λ (a : Bool). a && b) (ne_eqb k key (λ e. other (sym e)))
-asks_other key call b other = refl
-
-fills_other : (key : ℕ) (call : Call) (b : Bool) → key ≢ call_key call → (fills_key key call && b) ≡ false
-fills_other key (model.Fill k number rows) b other = ap (λ (a : Bool). a && b) (ne_eqb k key (λ e. other (sym e)))
-fills_other key call b other = refl
-
-cancels_other : (key : ℕ) (call : Call) (b : Bool) → key ≢ call_key call → (cancels_key key call && b) ≡ false
-cancels_other key (model.Cancel k) b other = ap (λ (a : Bool). a && b) (ne_eqb k key (λ e. other (sym e)))
-cancels_other key call b other = refl
-
 pub sends_of_all_keys_lem : SendsOfAllKeys
 sends_of_all_keys_lem writer readers knows =
     let shape = writer.table.shape in
@@ -69,21 +56,19 @@ sends_of_all_keys_lem writer readers knows =
     let keys = length-now shape log in
     let waiting : ℕ → ℕ = λ key. pending (state_of (map_after shape log) key) in
     let sent
-    = by_keys (λ key e. asks key e.call && is_send e.reply) shape log
-    (λ key e. asks_other key e.call (is_send e.reply)) knows.callers in
+    = by_keys (λ key e. asks key e.call && is_send e.reply) shape log (λ key e other. grind arith) knows.callers in
     let filled
-    = by_keys (λ key e. fills_key key e.call && is_done e.reply) shape log
-    (λ key e. fills_other key e.call (is_done e.reply)) knows.callers in
+    = by_keys (λ key e. fills_key key e.call && is_done e.reply) shape log (λ key e other. grind arith)
+    knows.callers in
     let cancelled
-    = by_keys (λ key e. cancels_key key e.call && is_cancelled e.reply) shape log
-    (λ key e. cancels_other key e.call (is_cancelled e.reply)) knows.callers in
+    = by_keys (λ key e. cancels_key key e.call && is_cancelled e.reply) shape log (λ key e other. grind arith)
+    knows.callers in
     let answered : ℕ → ℕ = λ key. fills log key + cancels log key in
     let each
     = below-same (sends log) (λ key. answered key + waiting key) shape.keys
     (λ key near. sends_are_answered_lem shape.keys (bound_of shape) shape.first_number key log knows.legal
     near) in
-    let pends : below waiting shape.keys ≡ total pending (map_after shape log).states
-    = ap (below waiting) (sym keys) ∙ by_states pending (map_after shape log).states in
+    let pends = rw keys at (by_states pending (map_after shape log).states) in
     omega (
       arith,
       sent,
@@ -99,18 +84,7 @@ sends_of_all_keys_lem writer readers knows =
 
 pub beginnings_meet_lem : BeginningsMeet
 beginnings_meet_lem one other longer shorter =
-    let twice : one ≡ (one ++ shorter.rest) ++ longer.rest
-    = longer.is ∙ ap (λ (l : List Entry). l ++ longer.rest) shorter.is in
+    let twice = rw shorter.is at longer.is in
     let none : longer.rest ≡ []
-    = no_more longer.rest
-    (omega (
-      arith,
-      ap length twice,
-      length-append (one ++ shorter.rest) longer.rest,
-      length-append one shorter.rest,
-    )) in
-    longer.is ∙ ap (λ (l : List Entry). other ++ l) none ∙ append-nil other
-  where
-    no_more : (l : List Entry) → length l ≡ 0 → l ≡ []
-    no_more [] e = refl
-    no_more (x ∷ l) e = absurd (omega arith)
+    = nil_from_length longer.rest (omega (arith, simp length-append at (ap length twice))) in
+    rw (none, append-nil other) at longer.is

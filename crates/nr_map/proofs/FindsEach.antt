@@ -1,6 +1,6 @@
 -- Finds of many keys, as a loop makes them, one by one or group by group.
-use Rattle.std.proofs.Common.{◌≡◌, ℕ, ◌+◌, ◌<◌, ◌≤◌, List, [], ◌∷◌, ◌++◌, length, take, drop, set, get_or, refl, sym}
-use Rattle.std.proofs.Common.{ap, ◌∙◌, subst, arith, append-nil}
+use Rattle.std.proofs.Common.{◌≡◌, ℕ, ◌+◌, ◌<◌, ◌≤◌, List, [], ◌∷◌, ◌++◌, length, take, drop, set, get_or, refl, ◌∙◌}
+use Rattle.std.proofs.Common.{subst, arith, append-nil}
 use Rattle.std.proofs.lemmas.List.{drop_all, drop_more, drop-set-lt, length-set, take_all, take_more_set}
 use Rattle.std.proofs.Math.Seq.{append_snoc}
 use Rattle.nr_model.specs.declared.rows.Row.{Row}
@@ -23,8 +23,7 @@ module _ {A : Type 0} (Finds : ℕ → Caller → List A → Caller → List A �
       → Finds made now [] now [] → Finds 0 first wanted now keys
   all_made made now keys begun end none =
       subst (λ (l : List A). Finds 0 first wanted now l) (append-nil (take made keys) ∙ take_all made keys end)
-      (begun.on now [] (subst (λ (l : List A). Finds made now l now [])
-      (sym (drop_all made wanted (omega (arith, end, begun.long)))) none))
+      (begun.on now [] (rw (drop_all made wanted (omega (arith, end, begun.long))) none))
 
 -- one by one, wherever they stand
 abbrev pub Listed : {Room : Type 0} → (Room → List Row → Type 0) → ℕ → Caller → List (Wanted Room) → Caller
@@ -35,19 +34,18 @@ module _ {Room : Type 0} (shows : Room → List Row → Type 0) (first : Caller)
   module _ (made : ℕ) (now : Caller) (keys : List (Wanted Room))
       (begun : Begun (Listed shows) first wanted made now keys) where
     module _ (one : Wanted Room) (low : made < length keys) (is : one ≡ get_or keys made one) where
-      tails : (one ∷ drop (made + 1) keys ≡ drop made wanted)
-          × (get_or wanted made one ∷ drop (made + 1) wanted ≡ drop made wanted)
-      tails = (
-        ap (λ (w : Wanted Room). w ∷ drop (made + 1) keys) is ∙ sym (drop_more keys made one low) ∙ begun.rest,
-        sym (drop_more wanted made one (omega (arith, begun.long))),
-      )
+      there : drop made wanted ≡ get_or wanted made one ∷ drop (made + 1) wanted
+      there = drop_more wanted made one (omega (arith, begun.long))
 
       same_rest : drop (made + 1) keys ≡ drop (made + 1) wanted
-      same_rest = let here = tails.0 in let there = tails.1 in cc
+      same_rest = cc (drop_more keys made one low, there)
 
       -- the key to be found next is one of those that were wanted
       pub as_wanted : one ≡ get_or wanted made one
-      as_wanted = let here = tails.0 in let there = tails.1 in cc
+      as_wanted = cc (drop_more keys made one low, there)
+
+      whole : one ∷ drop (made + 1) wanted ≡ drop made wanted
+      whole = cc (there, as_wanted)
 
       pub one_more : (next : Caller) (found : Wanted Room) → FindsWanted shows now one next found
           → Begun (Listed shows) first wanted (made + 1) next (set keys made found)
@@ -55,12 +53,6 @@ module _ {Room : Type 0} (shows : Room → List Row → Type 0) (first : Caller)
         long = length-set keys made found ∙ begun.long;
         rest = drop-set-lt (made + 1) keys made found (omega arith) ∙ same_rest;
         on = λ last others so.
-            let next_too : FindsList shows now (one ∷ drop (made + 1) wanted) last (found ∷ others)
-            = (next, finds, so) in
-            subst (λ (l : List (Wanted Room)). FindsList shows first wanted last l)
-            (sym (append_snoc (take made keys) found others)
-            ∙ ap (λ (l : List (Wanted Room)). l ++ others) (sym (take_more_set keys made found low)))
-            (begun.on last (found ∷ others)
-            (subst (λ (l : List (Wanted Room)). FindsList shows now l last (found ∷ others))
-            (ap (λ (l : List (Wanted Room)). one ∷ l) (sym same_rest) ∙ tails.0) next_too));
+            rw (take_more_set keys made found low, append_snoc (take made keys) found others)
+            (begun.on last (found ∷ others) (rw (← whole) (next, finds, so)));
       }

@@ -1,13 +1,13 @@
 -- Finds of many keys, as a loop makes them group by group.
-use Rattle.std.proofs.Common.{◌≡◌, ℕ, zero, suc, ◌+◌, ◌*◌, ◌%◌, ◌<◌, ◌≤◌, Bool, min, List, [], ◌∷◌, ◌++◌, length, take}
-use Rattle.std.proofs.Common.{drop, refl, sym, ap, ◌∙◌, subst, arith, append_assoc, eq-eqb, ne_eqb}
-use Rattle.std.proofs.Common.{length-append}
-use Rattle.std.proofs.lemmas.List.{drop-drop, length-drop, length-map, length-take-le, map-append}
+use Rattle.std.proofs.Common.{◌≡◌, ℕ, suc, ◌+◌, ◌*◌, ◌%◌, ◌<◌, ◌≤◌, Bool, min, List, [], ◌∷◌, ◌++◌, length, take, drop}
+use Rattle.std.proofs.Common.{refl, sym, ap, ◌∙◌, subst, arith, append_assoc, eq-eqb, ne_eqb, length-append}
+use Rattle.std.proofs.lemmas.Grind.{common_steps}
+use Rattle.std.proofs.lemmas.List.{drop-drop, length-drop, length-map, length-take, map-append}
 use Rattle.std.proofs.Math.Seq.{drop-append_seam, take-append_seam}
 use Rattle.nr_model.specs.declared.rows.Row.{Row}
 use Rattle.nr_board.specs.Callers.{Caller}
 use Rattle.nr_map.specs.declared.wanted.Wanted.{Wanted}
-use Rattle.nr_map.specs.FindsEach.{FindsEach, FindsFrom, FindsGroup, FindsList, keys_of}
+use Rattle.nr_map.specs.FindsEach.{FindsFrom, FindsGroup, FindsList, keys_of}
 use Rattle.nr_map.specs.LoadsAhead.{LoadsAhead, LoadsAt, LoadsIf}
 use Rattle.nr_map.proofs.FindsEach.{Begun}
 
@@ -30,12 +30,7 @@ module _ {Room : Type 0} (shows : Room → List Row → Type 0) where
   -- the first ones of a list, of which there are as many as there can be
   take_first : {A : Type 0} (most : ℕ) (first rest : List A) → min (length (first ++ rest)) most ≡ length first
       → take most (first ++ rest) ≡ first
-  take_first zero [] rest all = refl
-  take_first (suc most) [] [] all = refl
-  take_first (suc most) [] (one ∷ rest) all = absurd (omega (arith, all))
-  take_first zero (one ∷ first) rest all = absurd (omega (arith, all))
-  take_first {A = A} (suc most) (one ∷ first) rest all =
-      ap (λ (l : List A). one ∷ l) (take_first most first rest (omega (arith, all)))
+  take_first most first rest all = grind (arith, common_steps)
 
   -- but the loads for the group before its first one
   loads_before : (groups : ℕ) (group rest : List (Wanted Room)) (now ready : Caller)
@@ -108,11 +103,10 @@ module _ {Room : Type 0} (shows : Room → List Row → Type 0) where
           ∙ subst (λ (n : ℕ). drop n (front ++ drop end keys) ≡ drop end keys) front_size
           (drop-append_seam front (drop end keys))
           ∙ same_rest;
-      on = λ last more so. subst (λ (l : List (Wanted Room)). FindsEach shows first wanted last l)
-          (sym (append_assoc (take begin keys) found more) ∙ ap (λ (l : List (Wanted Room)). l ++ more) (sym taken))
+      on = λ last more so.
+          rw (taken, append_assoc (take begin keys) found more)
           (grouped.on last (found ++ more)
-          (subst (λ (l : List (Wanted Room)). FindsFrom shows begin now l last (found ++ more))
-          (ap (λ (l : List (Wanted Room)). group ++ l) (sym same_rest) ∙ whole ∙ grouped.rest)
+          (rw (← grouped.rest, ← whole, same_rest)
           (of_group groups group found (drop end wanted) more now finds.ready next last
           (omega (arith, size, end_is, low)) (omega (arith, size, end_is)) most finds.loads finds.finds
           (subst (λ (place : ℕ). FindsFrom shows place next (drop end wanted) last more) (omega (arith, size))
@@ -133,13 +127,7 @@ module _ {Room : Type 0} (shows : Room → List Row → Type 0) where
 
         front_size : length front ≡ end
         front_size =
-            omega (
-              arith,
-              length-append (take begin keys) found,
-              length-take-le begin keys (omega (arith, low)),
-              many,
-              size,
-            )
+            simp (length-append, length-take) (omega (arith, many, size))
 
         taken : take end (take begin keys ++ (found ++ drop end keys)) ≡ front
         taken =
@@ -152,16 +140,7 @@ module _ {Room : Type 0} (shows : Room → List Row → Type 0) where
 
         long_front : length (take begin keys ++ (found ++ drop end keys)) ≡ length keys
         long_front =
-            omega (
-              arith,
-              length-append (take begin keys) (found ++ drop end keys),
-              length-append found (drop end keys),
-              length-append group (drop end keys),
-              ends,
-              length-drop begin keys,
-              many,
-              length-take-le begin keys (omega (arith, low)),
-            )
+            simp (length-append, length-take, length-drop) (omega (arith, many, size, end_is))
 
         same_rest : drop end keys ≡ drop end wanted
         same_rest = subst (λ (n : ℕ). drop n keys ≡ drop n wanted) (omega (arith, size))
@@ -171,11 +150,4 @@ module _ {Room : Type 0} (shows : Room → List Row → Type 0) where
 
         most : min (length (group ++ drop end wanted)) 16 ≡ length group
         most =
-            omega (
-              arith,
-              ap (λ (l : List (Wanted Room)). length (group ++ l)) same_rest,
-              ends,
-              length-drop begin keys,
-              size,
-              end_is,
-            )
+            rw (← same_rest, ends, length-drop begin keys) (omega (arith, size, end_is))

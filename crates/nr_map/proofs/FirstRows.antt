@@ -1,6 +1,6 @@
 -- Rows that are put over the first ones of a list, one after another, and those that a hand holds.
-use Rattle.std.proofs.Common.{◌≡◌, ◌∙◌, ℕ, ◌+◌, ◌-◌, ◌*◌, ◌<◌, ◌≤◌, List, ◌++◌, length, take, drop, set, ap, sym}
-use Rattle.std.proofs.Common.{refl, arith, get_or, subst}
+use Rattle.std.proofs.Common.{◌≡◌, ◌∙◌, ℕ, ◌+◌, ◌-◌, ◌*◌, ◌<◌, ◌≤◌, List, ◌++◌, length, take, drop, set, ap, refl}
+use Rattle.std.proofs.Common.{arith, get_or}
 use Rattle.std.specs.Prelude.{Some, min, suc, true}
 use Rattle.std.proofs.lemmas.List.{length-append, length-drop, length-take-le, drop_min, take_min}
 use Rattle.nr_model.specs.declared.rows.Row.{Row}
@@ -54,29 +54,15 @@ module _ (from : ℕ) (first : Handed) (before : List Row) where
 
   -- at first none are
   pub copied_none : (put : ℕ) → put ≡ 0 → CopiedSoFar put first before
-  copied_none put is = subst (λ (n : ℕ). CopiedSoFar n first before) (sym is) (record {
-    over = refl;
-    long = refl;
-    reads = record {
-      key_is = refl;
-      rows = refl;
-      rests = rests_none first.reader;
-      holds = refl;
-      says = refl;
-      marks = refl;
-    };
-  })
+  copied_none put is = rw is (record { over = refl; long = refl; reads = assumption (rests_none first.reader) })
 
-  pub copied_on : {hand next : Handed} {cells after : List Row} (put more : ℕ) → CopiedSoFar put hand cells
+  pub copied_on : {hand next : Handed} {cells after : List Row} {put : ℕ} (more : ℕ) → CopiedSoFar put hand cells
       → ((old : List Row) → ArePutOver (drop from hand.rows) old put cells
       → ArePutOver (drop from hand.rows) old more after)
       → length after ≡ length cells → put ≤ more → CopiesHeld (2 * (more - put)) hand next
       → CopiedSoFar more next after
-  copied_on {hand} {next} {cells} {after} put more had puts long up reads = record {
-    over =
-        subst
-        (λ (l : List Row). ArePutOver (drop from l) before put cells → ArePutOver (drop from l) before more after)
-        had.reads.rows (puts before) had.over;
+  copied_on {hand} {next} {cells} {after} {put} more had puts long up reads = record {
+    over = (rw had.reads.rows at (puts before)) had.over;
     long = long ∙ had.long;
     reads =
         copies_both (2 * put) (2 * (more - put)) (2 * more) first hand next (omega (arith, up)) had.reads reads;
@@ -89,9 +75,8 @@ pub found_first : (key : ℕ) (old mid new : Handed) (before cells : List Row) (
     → FindsFirst key old before new cells (Some count)
 found_first key old mid new before cells count keeps copies put told =
     let long : length new.rows ≡ length mid.rows = ap (λ (l : List Row). length l) copies.rows in (
-      reads_on key old mid new (2 * min (length before) (length mid.rows - 0)) copies 0
-          (2 * min (length before) (length new.rows)) (omega (arith, long)) keeps,
-      put ∙ ap (λ (l : List Row). put_first l before) (sym copies.rows),
+      reads_on copies 0 (2 * min (length before) (length new.rows)) (omega (arith, long)) keeps,
+      rw copies.rows put,
       told,
     )
 
@@ -104,8 +89,7 @@ found_behind tag key old mid new before cells count ((rows, is), keeps) copies p
     let as_long : length new.rows ≡ length mid.rows = ap (λ (l : List Row). length l) copies.rows in (
       rows,
       copies.rows ∙ is,
-      reads_on key old mid new (2 * min (length before) (length mid.rows - 1)) copies 2
-          (2 + 2 * min (length before) (length rows)) (omega (arith, long)) keeps,
-      put ∙ ap (λ (l : List Row). put_first (drop 1 l) before) is,
+      reads_on copies 2 (2 + 2 * min (length before) (length rows)) (omega (arith, long)) keeps,
+      rw is at put,
       omega (arith, told, long, as_long),
     )

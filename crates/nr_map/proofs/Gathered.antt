@@ -22,22 +22,18 @@ rounds_tell_all_lem log readers calls
 -- the entries of a caller, with one entry more of its own, and of another
 entries_own : (entry : Entry) (log : List Entry) (caller : ℕ) → entry.caller ≡ caller
     → entries_of (entry ∷ log) caller ≡ entry ∷ entries_of log caller
-entries_own entry log caller is =
-    ap (λ (b : Bool). cond b (entry ∷ entries_of log caller) (entries_of log caller)) (eq-eqb entry.caller caller is)
+entries_own entry log caller is = rw (eq-eqb entry.caller caller is) refl
 
 entries_other : (entry : Entry) (log : List Entry) (caller : ℕ) → entry.caller ≢ caller
     → entries_of (entry ∷ log) caller ≡ entries_of log caller
-entries_other entry log caller isnt =
-    ap (λ (b : Bool). cond b (entry ∷ entries_of log caller) (entries_of log caller)) (ne_eqb entry.caller caller isnt)
+entries_other entry log caller isnt = rw (ne_eqb entry.caller caller isnt) refl
 
 -- who has an entry is one of the callers
 within : (entry : Entry) (log : List Entry) (n : ℕ) → ((caller : ℕ) → n ≤ caller → entries_of (entry ∷ log) caller ≡ [])
     → entry.caller < n
 within entry log n none = ⊎_elim (λ (low : entry.caller < n). low)
     (λ (beyond : n ≤ entry.caller).
-    let some_there : entry ∷ entries_of log entry.caller ≡ []
-    = sym (entries_own entry log entry.caller refl) ∙ none entry.caller beyond in
-    absurd (cc))
+    absurd (cc (entries_own entry log entry.caller refl, none entry.caller beyond)))
     (cases_lt entry.caller n)
 
 -- a history whose callers are below n is counted caller by caller
@@ -49,10 +45,7 @@ by_callers test (entry ∷ log) n none =
     let g : ℕ → ℕ = λ caller. count_by test (entries_of (entry ∷ log) caller) in
     let none_more : (caller : ℕ) → n ≤ caller → entries_of log caller ≡ []
     = λ caller beyond. dite (ℕ_discrete entry.caller caller)
-    (λ is.
-    let some_there : entry ∷ entries_of log caller ≡ []
-    = sym (entries_own entry log caller is) ∙ none caller beyond in
-    absurd (cc))
+    (λ is. absurd (cc (entries_own entry log caller is, none caller beyond)))
     (λ isnt. sym (entries_other entry log caller isnt) ∙ none caller beyond) in
     let inside = within entry log n none in
     let before = by_callers test log n none_more in

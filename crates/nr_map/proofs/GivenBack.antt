@@ -1,8 +1,8 @@
 -- A caller that lets no set be overwritten, call by call: each slot's set has the rows of its put number, and so has
 -- each that came out.
-use Rattle.std.proofs.Common.{Bool, List, [], ap, append-nil, arith, cond, false, get_or, get_or-set_other}
-use Rattle.std.proofs.Common.{inr, length, length-append, length-set, map, refl, subst, suc}
-use Rattle.std.proofs.Common.{sym, true, zero, ℕ, ⊎_elim, ◌++◌, ◌+◌, ◌<◌, ◌∙◌, ◌∷◌, ◌≡◌, ◌≢◌, ◌*◌}
+use Rattle.std.proofs.Common.{Bool, List, [], ap, append-nil, arith, cond, false, get_or, get_or-set_other, inr, length}
+use Rattle.std.proofs.Common.{length-append, length-set, map, refl, subst, suc, sym, true, zero, ℕ, ⊎_elim, ◌++◌, ◌+◌}
+use Rattle.std.proofs.Common.{◌<◌, ◌∙◌, ◌∷◌, ◌≡◌, ◌≢◌, ◌*◌}
 use Rattle.std.proofs.lemmas.Bool.{le-ltb, lt-ltb}
 use Rattle.std.proofs.lemmas.List.{get_or_append_left, length-replicate, map-append}
 use Rattle.std.proofs.lemmas.List.Elements.{All-append, All-head, All-nil, All-push, All-tail, All-weaker}
@@ -19,12 +19,12 @@ use Rattle.nr_core.specs.declared.shape.Shape.{Shape}
 use Rattle.nr_model.specs.Strays.{count_of_put}
 use Rattle.nr_model.specs.declared.calls.Call.{Call}
 use Rattle.nr_model.specs.declared.rows.Row.{Row}
-use Rattle.nr_core.specs.Marks.{Marks, is_reaped, set_in}
+use Rattle.nr_core.specs.Marks.{is_reaped, set_in}
 use Rattle.nr_core.specs.Puts.{put_count}
 use Rattle.nr_board.specs.declared.answers.Reaped.TheVariants as reaped
 use Rattle.nr_board.specs.declared.answers.Reclaimed.{Reclaimed}
 use Rattle.nr_board.specs.declared.answers.Reclaimed.TheVariants as reclaimed
-use Rattle.nr_board.specs.Callers.{Caller, Table}
+use Rattle.nr_board.specs.Callers.{Caller}
 use Rattle.nr_board.specs.Reaping.{ReapsIn}
 use Rattle.nr_board.specs.Reclaiming.{HandsOutAt}
 use Rattle.nr_board.specs.SlotLists.{lists_of}
@@ -36,8 +36,8 @@ use Rattle.nr_map.specs.Reclaims.{Ledger, had_number}
 use Rattle.nr_map.specs.Remains.{Given, given_at, numbers}
 use Rattle.nr_map.proofs.Keeping.{KeepsSets, cancel_keeps, evict_keeps, fill_keeps, kept_ledger, lacks_keeps}
 use Rattle.nr_map.proofs.Keeping.{learns_keeps, quiet_keeps, replace_keeps, rests_keeps, update_keeps}
-use Rattle.nr_map.proofs.Ledgers.{ledger_goes_on, number_is, opening_begins_lem, put_now, reaped_once_lem}
-use Rattle.nr_map.proofs.Ledgers.{ready_there, stands_once}
+use Rattle.nr_map.proofs.Ledgers.{ledger_goes_on, number_is, opening_begins_lem, put_now, reaped_once_lem, ready_there}
+use Rattle.nr_map.proofs.Ledgers.{stands_once}
 use Rattle.nr_map.proofs.Standing.{count_both}
 use Rattle.nr_map.proofs.Remainders.{StandsIn, rest_comes_out_once_lem, rest_stands}
 
@@ -102,33 +102,26 @@ module _ (steps : ℕ) (call : Call) (rows : List Row) (old new : Caller) (put :
   stand_now slot low kept = dite (ℕ_discrete slot published.slot)
       (λ same.
       let inside : published.slot < length old.marks.sets = omega (arith, published.inside, books.many) in
-      let number : get_or new.marks.puts slot 0 ≡ length put
-      = ap (λ (i : ℕ). get_or new.marks.puts i 0) same ∙ published.put ∙ its_number in
-      ap (λ (m : Marks). set_in m slot) published.marks
-      ∙ get_or-set_at old.marks.sets published.slot slot rows [] same inside
-      ∙ sym (ap (rows_put (put ++ rows ∷ [])) number ∙ get_or-append_seam put rows [] []))
+      let number : get_or new.marks.puts slot 0 ≡ length put = rw same (published.put ∙ its_number) in
+      rw (number, get_or-append_seam put rows [] [], published.marks)
+      (get_or-set_at old.marks.sets published.slot slot rows [] same inside))
       (λ other.
       let before = taken_before slot low other in
-      let was : is_reaped old.marks slot ≡ false
-      = sym
-      (ap (λ (m : Marks). is_reaped m slot) published.marks
-      ∙ get_or-set_other old.marks.reaped published.slot slot false false other)
-      ∙ kept in
-      let number : get_or new.marks.puts slot 0 ≡ get_or old.marks.puts slot 0
-      = ap (λ (m : Marks). get_or m.puts slot 0) published.marks
-      ∙ get_or-set_other old.marks.puts published.slot slot published.number 0 other in
-      ap (λ (m : Marks). set_in m slot) published.marks
-      ∙ get_or-set_other old.marks.sets published.slot slot rows [] other
-      ∙ (more_rows put rows (given_at old slot) (stands_so old put given slot books before was)).1
-      ∙ ap (rows_put (put ++ rows ∷ [])) (sym number))
+      let was
+      = rw (published.marks, get_or-set_other old.marks.reaped published.slot slot false false other) at kept in
+      rw (
+        published.marks,
+        get_or-set_other old.marks.sets published.slot slot rows [] other,
+        get_or-set_other old.marks.puts published.slot slot published.number 0 other,
+      )
+      (more_rows put rows (given_at old slot) (stands_so old put given slot books before was)).1)
 
   put_goes_on : (out : List Given) → numbers out ≡ had_number old published.slot
       → All (HasItsRows put) out → Books new (put ++ rows ∷ []) (given ++ out)
   put_goes_on out had rows_had = record {
     writes = published.gains.number ∙ books.writes;
     ledger =
-        subst (Ledger new)
-        (ap (λ (l : List ℕ). numbers given ++ l) (sym had) ∙ sym (map-append (λ (one : Given). one.number) given out))
+        rw (map-append (λ (one : Given). one.number) given out, had)
         (ledger_goes_on steps call rows old new (numbers given) books.writes published books.ledger);
     count =
         omega (
@@ -138,8 +131,7 @@ module _ (steps : ℕ) (call : Call) (rows : List Row) (old new : Caller) (put :
           put_now steps call rows old new (numbers given) books.writes published books.ledger,
         );
     many =
-        ap (λ (m : Marks). length m.sets) published.marks ∙ length-set old.marks.sets published.slot rows ∙ books.many
-        ∙ sym (ap (λ (t : Table). t.shape.slots) published.gains.table);
+        rw (published.gains.table, published.marks) (length-set old.marks.sets published.slot rows ∙ books.many);
     stand = stand_now;
     gave =
         All-weaker (HasItsRows put) (HasItsRows (put ++ rows ∷ [])) (more_rows put rows) (given ++ out)
@@ -157,22 +149,21 @@ module _ {Room : Type 0} (shows : Room → List Row → Type 0) (others : ℕ) (
   gives_what_it_had steps published reclaimed.Set hands =
       let low : published.slot < old.fresh = omega (arith, published.inside, hands.0) in
       let slot : ℕ = published.slot in (
-        sym (λ j. cond {A = List ℕ} (lt-ltb slot old.fresh low j)
-            (cond {A = List ℕ} (hands.1 j) [] (get_or old.marks.puts slot 0 ∷ [])) []),
+        rw (lt-ltb slot old.fresh low, hands.1) refl,
         All-push (HasItsRows put) [] (given_at old slot) (All-nil (HasItsRows put))
             (stands_so old put given slot books low hands.1),
       )
-  gives_what_it_had steps published reclaimed.Nothing hands = let slot : ℕ = published.slot in
-      let rest : List ℕ = cond {A = List ℕ} (is_reaped old.marks slot) [] (get_or old.marks.puts slot 0 ∷ []) in (
-        sym (⊎_elim
-            (λ fresh. ap (λ (b : Bool). cond {A = List ℕ} b rest [])
-            (le-ltb slot old.fresh
-            (⊎_elim (λ took. omega (arith, took.1)) (λ took. absurd (omega (arith, took.0))) published.took)))
-            (λ gone. by_cases (λ (b : Bool). cond {A = List ℕ} b rest [] ≡ []) (nat_lt slot old.fresh)
-            (λ _. ap (λ (b : Bool). cond {A = List ℕ} b [] (get_or old.marks.puts slot 0 ∷ [])) gone) (λ _. refl))
-            hands.0),
-        All-nil (HasItsRows put),
-      )
+  gives_what_it_had steps published reclaimed.Nothing hands = let slot : ℕ = published.slot in (
+    ⊎_elim
+        (λ fresh. rw
+        (le-ltb slot old.fresh
+        (⊎_elim (λ took. omega (arith, took.1)) (λ took. absurd (omega (arith, took.0))) published.took))
+        refl)
+        (λ gone. rw gone
+        (by_cases (λ (b : Bool). [] ≡ cond {A = List ℕ} b [] []) (nat_lt slot old.fresh) (λ _. refl) (λ _. refl)))
+        hands.0,
+    All-nil (HasItsRows put),
+  )
 
   gave_back : (steps : ℕ) (published : Publishes (others + steps) call rows old new) (answer : Reclaimed)
       → HandsOutAt shows old.table (lists_of old) old.marks published.slot before after steps answer
@@ -197,12 +188,9 @@ module _ {Room : Type 0} (shows : Room → List Row → Type 0) (old new : Calle
       let ledger
       = reaped_once_lem reaps.held reaps.later entry (reaps.earlier ++ reaps.notes) _ reaps.scanned _ old new
       (numbers given) reaps.split is books.ledger in
-      subst (λ (l : List (List Row)). Books new l (given ++ one ∷ [])) (sym (append-nil put))
-      (subst (λ (c : Caller). Ledger c (numbers given ++ one.number ∷ []) → Books c put (given ++ one ∷ []))
-      (sym is)
-      (λ goes. record {
+      rw (append-nil put, is) (record {
         writes = books.writes;
-        ledger = subst (Ledger _) (sym (map-append (λ (it : Given). it.number) given (one ∷ []))) goes;
+        ledger = rw (map-append (λ (it : Given). it.number) given (one ∷ [])) (rw is at ledger);
         count = books.count;
         many = books.many;
         stand = λ other near kept. dite (ℕ_discrete other slot)
@@ -213,23 +201,20 @@ module _ {Room : Type 0} (shows : Room → List Row → Type 0) (old new : Calle
             (λ apart. books.stand other near
             (sym (get_or-set_other old.marks.reaped slot other true false apart) ∙ kept));
         gave = All-push (HasItsRows put) given one books.gave has;
-      }) ledger)
+      })
 
 -- CALLS THAT LEAVE THE SETS
 
 books_stay : {old new : Caller} {put : List (List Row)} {given : List Given} → KeepsSets old new → Books old put given
     → Books new (put ++ []) (given ++ [])
 books_stay {old} {new} {put} {given} kept books =
-    subst (λ (b : List (List Row) × List Given). Books new b.0 b.1)
-    (λ j. (sym (append-nil put) j, sym (append-nil given) j)) (record {
+    rw (append-nil put, append-nil given) (record {
       writes = kept.number ∙ books.writes;
       ledger = kept_ledger old new (numbers given) kept books.ledger;
       count = books.count ∙ sym kept.many;
-      many = ap length kept.sets ∙ books.many ∙ sym (ap (λ (t : Table). t.shape.slots) kept.table);
-      stand = λ slot low flag. ap (λ (l : List (List Row)). get_or l slot []) kept.sets
-          ∙ books.stand slot (omega (arith, low, kept.fresh))
-          (sym (ap (λ (l : List Bool). get_or l slot false) kept.reaped) ∙ flag)
-          ∙ ap (λ (l : List ℕ). rows_put put (get_or l slot 0)) (sym kept.puts);
+      many = rw (kept.sets, kept.table) books.many;
+      stand = λ slot low flag.
+          rw (kept.sets, kept.puts) (books.stand slot (rw kept.fresh at low) (rw kept.reaped at flag));
       gave = books.gave;
     })
 
@@ -267,14 +252,14 @@ module _ {Room : Type 0} (shows : Room → List Row → Type 0) where
   run_books : {writer : Caller} {put : List (List Row)} {given : List Given} → Run shows writer put given
       → Books writer put given
   run_books (Opens shape words map writer readers opened) =
-      subst (λ (c : Caller). Ledger c [] → Books c [] []) (sym opened.writes) (λ ledger. record {
+      rw opened.writes (record {
         writes = refl;
-        ledger = ledger;
+        ledger = rw opened.writes at (opening_begins_lem shape words map writer readers opened);
         count = refl;
         many = length-replicate shape.slots [] ∙ ap (λ (s : Shape). s.slots) (sym opened.sizes);
         stand = λ slot low kept. absurd (omega arith);
         gave = All-nil (HasItsRows []);
-      }) (opening_begins_lem shape words map writer readers opened)
+      })
   run_books (Goes old new put more given out run deal) = deal_goes_on (run_books run) deal
 
   pub each_set_comes_out_once_lem : EachSetComesOutOnce shows

@@ -1,18 +1,13 @@
 -- How a hand that keeps its hold finds a key, after it asked in vain, or loaded another key's word, or had nothing to
 -- go on from.
-use Rattle.std.proofs.Common.{◌≡◌, ℕ, suc, ◌+◌, ◌-◌, ◌<◌, Option, Some, None, cond, eq-eqb, ne_eqb, inl, inr, ⊎_elim}
-use Rattle.std.proofs.Common.{◌≢◌, refl, ap, ◌∙◌, sym, subst, arith, append_assoc, Bool, true, false, List, [], ◌∷◌}
-use Rattle.std.proofs.Common.{◌++◌}
-use Rattle.std.specs.Prelude.{◌↔◌, ◌&&◌, ◌||◌, ◌==◌, IsSome, nat_lt}
-use Rattle.std.proofs.lemmas.Bool.{lt-ltb, ltb-true}
+use Rattle.std.proofs.Common.{◌≡◌, ℕ, suc, ◌+◌, ◌-◌, ◌<◌, Option, Some, None, cond, eq-eqb, inl, inr, ◌≢◌, refl, ap}
+use Rattle.std.proofs.Common.{◌∙◌, sym, subst, arith, append_assoc, Bool, true, false, List, [], ◌∷◌, ◌++◌}
+use Rattle.std.specs.Prelude.{◌↔◌, IsSome, nat_lt}
 use Rattle.nr_core.proofs.Choices.{by_cases}
-use Rattle.nr_words.specs.KeyWords.{is_filled, slot_of}
+use Rattle.nr_words.specs.KeyWords.{slot_of}
 use Rattle.nr_model.specs.Histories.{Entry}
 use Rattle.nr_model.specs.declared.calls.Call.TheVariants as model
 use Rattle.nr_model.specs.declared.calls.Reply.{Reply}
-use Rattle.nr_model.specs.declared.calls.Reply.TheVariants as reply
-use Rattle.nr_model.specs.declared.rows.Row.{Row}
-use Rattle.nr_model.specs.Rows.{IsRowSet}
 use Rattle.nr_core.specs.Slots.{name_number, names_slot}
 use Rattle.nr_core.specs.declared.roles.Grip.{Grip}
 use Rattle.nr_core.specs.declared.roles.Grip.TheVariants.{Nothing}
@@ -26,7 +21,7 @@ use Rattle.nr_board.proofs.ReaderSeats.{held_says}
 use Rattle.nr_board.proofs.Tokens.{MapSeat}
 use Rattle.nr_board.specs.Ahead.{after_look}
 use Rattle.nr_board.specs.Callers.{Caller, Gains, Grows, Rests, Table, token}
-use Rattle.nr_board.specs.Holds.{FindsHoleAfter, FindsRowsAfter, HeldAs, HeldIn, HoldsWhatItSays, HoleIn, finds_by_word}
+use Rattle.nr_board.specs.Holds.{FindsHoleAfter, FindsRowsAfter, HeldAs, HeldIn, HoldsWhatItSays, finds_by_word}
 use Rattle.nr_board.specs.Holds.{looks_at, slot_in}
 use Rattle.nr_board.specs.declared.board.Own.{Own}
 use Rattle.nr_board.specs.declared.holds.Held.{Held}
@@ -35,36 +30,17 @@ use Rattle.nr_board.specs.Plays.{holding}
 use Rattle.nr_board.specs.Views.{caller_number, grip_of, is_sized, rows_held, slot_held}
 use Rattle.nr_map.specs.declared.hand.Kept.{Kept}
 use Rattle.nr_map.specs.Pins.{HoldsSlot, Pins}
-use Rattle.nr_map.specs.Hands.{AskedBefore, AsksInVain, BegunIn, Handed, HoldsKey, HoldsNothing, IsHand, first_by}
-use Rattle.nr_map.specs.Hands.{KeepsByHand, MovesByHand, PinsByHand, departed, goes_on, handed, late_by}
-use Rattle.nr_map.specs.Hands.{looks_first, steps_to_depart}
-
--- what a find's answer stands for: its reply, the steps of its hold, and what the hand holds then
-abbrev reply_of : Bool → List Row → Reply
-reply_of true rows = reply.Rows rows
-reply_of false rows = reply.Hole
-
-abbrev TakesIn : Bool → Bool → List ℕ → ℕ → ℕ → Type 0
-TakesIn true by_word named says steps = HeldIn by_word named says steps
-TakesIn false by_word named says steps = HoleIn by_word named steps
-
-abbrev HoldsThen : Bool → ℕ → Handed → Handed → Type 0
-HoldsThen true key old new = HoldsKey key old new
-HoldsThen false key old new = HoldsNothing key old new
+use Rattle.nr_map.specs.Hands.{AskedBefore, AsksInVain, BegunIn, Handed, IsHand, KeepsByHand, MovesByHand, PinsByHand}
+use Rattle.nr_map.specs.Hands.{HoldsThen, TakesIn, departed, goes_on, handed, late_by, looks_first, reply_of}
+use Rattle.nr_map.specs.Hands.{steps_to_depart}
 
 -- a hold takes a step at least
 some_takes : (answer by_word : Bool) (named : List ℕ) (says steps : ℕ) → TakesIn answer by_word named says steps
     → 0 < steps
 some_takes true false named says steps takes = omega (arith, takes.2)
-some_takes true true named says steps takes =
-    ⊎_elim (λ four. omega (arith, four.3))
-    (λ more. ⊎_elim (λ six. omega (arith, six.5)) (λ eight. omega (arith, eight.7)) more) takes
+some_takes true true named says steps takes = omega (arith, takes)
 some_takes false false named says steps takes = omega (arith, takes.1)
-some_takes false true named says steps takes =
-    ⊎_elim (λ one. omega (arith, one.1))
-    (λ more. ⊎_elim (λ four. omega (arith, four.2))
-    (λ last. ⊎_elim (λ six. omega (arith, six.4)) (λ seven. omega (arith, seven.6)) last) more)
-    takes
+some_takes false true named says steps takes = omega (arith, takes)
 
 -- a find by a hand, by its answer: the looks at the key that named those came before
 record Finds (answer : Bool) (before : List ℕ) (more key : ℕ) (old new : Handed) : Type 0 where
@@ -80,7 +56,7 @@ module _ (key : ℕ) (old new : Handed) where
       → BegunIn key old finds.named begun before
       → (old.key ≡ Some key → AskedBefore key old new) → KeepsByHand key old new answer
   keeps_anew true begun before so begins own =
-      let none : begun ≡ begun + 0 = omega arith in
+      let none : begun + 0 ≡ begun = omega arith in
       let finds : FindsRowsAfter before (begun + 0) key new.rows old.reader new.reader
       = record {
         steps = so.steps;
@@ -88,9 +64,7 @@ module _ (key : ℕ) (old new : Handed) where
         says = new.reader.says;
         holds_in = so.takes;
         looks = so.looks;
-        gains =
-            subst (λ (n : ℕ). Gains (so.steps + n) (model.Find key) old.reader new.reader (reply.Rows new.rows)) none
-            so.gains;
+        gains = rw none so.gains;
       } in
       inr (own, (begun, before, finds, begins, so.holds, refl))
   keeps_anew false begun before so begins own =
@@ -106,31 +80,6 @@ module _ (key : ℕ) (old new : Handed) where
       let takes = so.finds_in in
       record { steps = so.steps; named = so.named; takes = takes; looks = so.looks; gains = so.gains; holds = holds }
 
--- a hand's find after a look, whatever its answer
-abbrev Moves : ℕ → ℕ → Handed → Handed → Bool → Type 0
-Moves key word old new answer =
-    (steps : ℕ) × (named : List ℕ)
-    × TakesIn answer (finds_by_word old.reader) (first_by old.reader.says word ++ named) new.reader.says steps
-    × Gains (steps + late_by old.reader.says word - 1) (model.Find key) old.reader new.reader (reply_of answer new.rows)
-    × HoldsThen answer key old new × (new.reader.marks.loads ≡ old.reader.marks.loads ++ looks_at key named)
-
-moves_so : (key word : ℕ) (old new : Handed) (answer : Bool) → MovesByHand key word old new answer
-    → Moves key word old new answer
-moves_so key word old new true moves = moves
-moves_so key word old new false moves = moves
-
-moves_by : (key word : ℕ) (old new : Handed) (answer : Bool) → Moves key word old new answer
-    → MovesByHand key word old new answer
-moves_by key word old new true moves = moves
-moves_by key word old new false moves = moves
-
-some_is : (one other : ℕ) → Some one ≡ Some other → one ≡ other
-some_is one other same = ap (λ (o : Option ℕ). value o) same
-  where
-    value : Option ℕ → ℕ
-    value None = 0
-    value (Some n) = n
-
 -- the loads before others are of no account
 loads_over : (held : Option ℕ) (marks : Marks) (loads more : List LoggedLoad) (put : ℕ)
     → acted (with_loads (departed held (with_loads marks loads)) more) put
@@ -138,28 +87,17 @@ loads_over : (held : Option ℕ) (marks : Marks) (loads more : List LoggedLoad) 
 loads_over None marks loads more put = refl
 loads_over (Some key) marks loads more put = refl
 
-both_so : (a b : Bool) → (a && b) ≡ true → (a ≡ true) × (b ≡ true)
-both_so true b is = (refl, is)
-both_so false b is = absurd (cc)
-
-or_so : (a b : Bool) → b ≡ true → (a || b) ≡ true
-or_so true b is = refl
-or_so false b is = is
-
 -- whether the hand looks before it lets anything go
 looks_own : (key : ℕ) (held : Option ℕ) (says : ℕ) → held ≡ Some key → looks_first key held says ≡ true
-looks_own key held says is =
-    ap (λ (o : Option ℕ). looks_first key o says) is ∙ ap (λ (b : Bool). b || nat_lt 0 says) (eq-eqb key key refl)
+looks_own key held says is = rw is (rw (eq-eqb key key refl) refl)
 
 looks_loud : (key other : ℕ) (held : Option ℕ) (says : ℕ) → held ≡ Some other → 0 < says
     → looks_first key held says ≡ true
-looks_loud key other held says is loud =
-    ap (λ (o : Option ℕ). looks_first key o says) is ∙ or_so (other == key) (nat_lt 0 says) (lt-ltb 0 says loud)
+looks_loud key other held says is loud = grind arith
 
 looks_not : (key other : ℕ) (held : Option ℕ) (says : ℕ) → held ≡ Some other → other ≢ key → says ≡ 0
     → looks_first key held says ≡ false
-looks_not key other held says is apart silent =
-    ap (λ (o : Option ℕ). looks_first key o says) is ∙ (λ j. ne_eqb other key apart j || nat_lt 0 (silent j))
+looks_not key other held says is apart silent = grind arith
 
 -- a look by a hand that holds a set, after which it goes on
 module _ (key word : ℕ) (old asked new : Handed) (looks : looks_first key old.key old.reader.says ≡ true)
@@ -171,32 +109,17 @@ module _ (key word : ℕ) (old asked new : Handed) (looks : looks_first key old.
   same_words : finds_by_word asked.reader ≡ finds_by_word old.reader
   same_words = λ j. nat_lt (number j - 1) (table j).announcers
 
-  marks_still : new.reader.marks
-      ≡ acted (with_loads (departed asked.key asked.reader.marks) new.reader.marks.loads)
-      (put_number new.reader.seen key)
-      → new.reader.marks
-      ≡ acted (with_loads (departed old.key old.reader.marks) new.reader.marks.loads) (put_number new.reader.seen key)
-  marks_still so =
-      so
-      ∙ (λ j. acted (with_loads (departed (key_is j) (marks j)) new.reader.marks.loads)
-      (put_number new.reader.seen key))
-      ∙ loads_over old.key old.reader.marks (with_look old.reader.marks key (name_number word)).loads
-      new.reader.marks.loads (put_number new.reader.seen key)
+  marks_still : (loads : List LoggedLoad) (put : ℕ)
+      → acted (with_loads (departed asked.key asked.reader.marks) loads) put
+      ≡ acted (with_loads (departed old.key old.reader.marks) loads) put
+  marks_still loads put = rw (key_is, marks) (loads_over old.key old.reader.marks _ loads put)
 
   still : (answer : Bool) → HoldsThen answer key asked new → HoldsThen answer key old new
-  still true so = record {
-    key_is = so.key_is;
-    row_set = subst (λ (t : Table). IsRowSet t.shape.rows new.rows) table so.row_set;
-    holds = so.holds;
-    marks = marks_still so.marks;
-  }
-  still false so = record {
-    key_is = so.key_is;
-    rows = so.rows;
-    holds = so.holds;
-    silent = so.silent;
-    marks = marks_still so.marks;
-  }
+  still true so =
+      assumption
+      (so, rw table at so.row_set, so.marks ∙ marks_still new.reader.marks.loads (put_number new.reader.seen key))
+  still false so =
+      assumption (so, so.marks ∙ marks_still new.reader.marks.loads (put_number new.reader.seen key))
 
   loads_on : (named : List ℕ) → new.reader.marks.loads ≡ asked.reader.marks.loads ++ looks_at key named
       → new.reader.marks.loads ≡ old.reader.marks.loads ++ looks_at key (name_number word ∷ named)
@@ -206,21 +129,12 @@ module _ (key word : ℕ) (old asked new : Handed) (looks : looks_first key old.
 
   -- the look's word, where the hand goes on to its slot, and where it doesn't
   goes_so : goes_on asked.reader.says word ≡ true → (0 < old.reader.says) × (name_number word ≡ suc (slot_of word))
-  goes_so goes =
-      let both = both_so (nat_lt 0 asked.reader.says) (is_filled word) goes in
-      let loud = ltb-true 0 asked.reader.says both.0 in
-      let named : name_number word ≡ slot_of word + 1 = ap (λ (b : Bool). cond b (slot_of word + 1) 0) both.1 in
-      (omega (arith, says, loud), omega arith)
+  goes_so goes = grind arith
 
   stays_so : goes_on asked.reader.says word ≡ false → 0 < old.reader.says → name_number word ≡ 0
-  stays_so stays loud = by_cases (λ (b : Bool). is_filled word ≡ b → name_number word ≡ 0) (is_filled word)
-      (λ _ full.
-      let lt = lt-ltb 0 asked.reader.says (omega (arith, says)) in
-      absurd
-      (let goes : goes_on asked.reader.says word ≡ true = (λ j. lt j && full j) in let clash = stays in cc))
-      (λ _ empty. ap (λ (b : Bool). cond b (slot_of word + 1) 0) empty) refl
+  stays_so stays loud = grind arith
 
-  module _ (answer : Bool) (moves : Moves key word asked new answer) where
+  module _ (answer : Bool) (moves : MovesByHand key word asked new answer) where
     -- the look is the find's first where the hand goes on
     first_look : (goes : Bool) → cond {A = List ℕ} goes [] (name_number word ∷ [])
         ++ (cond {A = List ℕ} goes (name_number word ∷ []) [] ++ moves.1)
@@ -265,8 +179,8 @@ module _ (key word : ℕ) (old asked new : Handed) (looks : looks_first key old.
         refl
 
 -- a hand that asked in vain goes on
-module _ (key word : ℕ) (old asked new : Handed) (vain : AsksInVain key old asked) (held : old.key ≡ Some key)
-    (marks : asked.reader.marks ≡ with_look old.reader.marks key (name_number word)) where
+module _ {key : ℕ} (word : ℕ) {old asked : Handed} (new : Handed) (vain : AsksInVain key old asked)
+    (held : old.key ≡ Some key) (marks : asked.reader.marks ≡ with_look old.reader.marks key (name_number word)) where
   asked_before : (more : ℕ) (entries : List Entry) (named : List ℕ) → Grows more entries asked.reader new.reader
       → new.reader.marks.loads ≡ asked.reader.marks.loads ++ looks_at key named → AskedBefore key old new
   asked_before more entries named grows loads = (
@@ -285,26 +199,16 @@ module _ (key word : ℕ) (old asked new : Handed) (vain : AsksInVain key old as
       grows_gains 1 m sum old.reader asked.reader new.reader (model.Find key) answer is vain.grows gains
 
   pub asked_anew : (answer : Bool) → MovesByHand key word asked new answer → KeepsByHand key old new answer
-  asked_anew answer moves = let so = moves_so key word asked new answer moves in
+  asked_anew answer so =
       moved_anew key word old asked new (looks_own key old.key old.reader.says held) vain.grows.table vain.grows.number
       vain.says vain.key_is marks went_on answer so (λ _. asked_before _ _ so.1 so.3 so.5)
 
 -- so does one that holds by its word another key's set, and looked ahead
-module _ (key word other : ℕ) (old ahead new : Handed) (held : old.key ≡ Some other) (apart : other ≢ key)
+module _ {key : ℕ} (word : ℕ) {other : ℕ} (old ahead new : Handed) (held : old.key ≡ Some other) (apart : other ≢ key)
     (loud : 0 < old.reader.says) (look : ahead.reader ≡ after_look key (name_number word) old.reader)
     (key_is : ahead.key ≡ old.key) where
   rests : Rests 1 old.reader ahead.reader
-  rests =
-      subst (Rests 1 old.reader) (sym look)
-      (record {
-        table = refl;
-        number = refl;
-        seen = refl;
-        mine = refl;
-        steps_made = refl;
-        pasts = refl;
-        loaded_ahead = refl;
-      })
+  rests = rw look assumption
 
   gains_on : (answer : Reply) (m sum : ℕ) → sum ≡ 1 + m → Gains m (model.Find key) ahead.reader new.reader answer
       → Gains sum (model.Find key) old.reader new.reader answer
@@ -315,7 +219,7 @@ module _ (key word other : ℕ) (old ahead new : Handed) (held : old.key ≡ Som
   looked_anew answer moves =
       moved_anew key word old ahead new (looks_loud key other old.key old.reader.says held loud) rests.table
       rests.number (ap (λ (c : Caller). c.says) look) key_is (ap (λ (c : Caller). c.marks) look) gains_on answer
-      (moves_so key word ahead new answer moves) (λ own. absurd (apart (some_is other key (sym held ∙ own))))
+      moves (λ own. absurd (apart (cc)))
 
 -- a hand that holds nothing, or another key's set by the count, pins the key without a look
 module _ (key : ℕ) (old new : Handed) (apart : old.key ≢ Some key)
@@ -328,48 +232,35 @@ module _ (key : ℕ) (old new : Handed) (apart : old.key ≢ Some key)
 pub pinned_none : (key : ℕ) (old new : Handed) (answer : Bool) → old.key ≡ None → PinsByHand key old new answer
     → KeepsByHand key old new answer
 pinned_none key old new answer none =
-    pinned_anew key old new (λ own. absurd (let here = sym none ∙ own in cc))
-    (ap (λ (o : Option ℕ). looks_first key o old.reader.says) none) answer
+    pinned_anew key old new (λ own. absurd (cc)) (rw none refl) answer
 
 pub pinned_other : (key other : ℕ) (old new : Handed) (answer : Bool) → old.key ≡ Some other → other ≢ key
     → old.reader.says ≡ 0 → PinsByHand key old new answer → KeepsByHand key old new answer
 pinned_other key other old new answer held apart silent =
-    pinned_anew key old new (λ own. absurd (apart (some_is other key (sym held ∙ own))))
+    pinned_anew key old new (λ own. absurd (apart (cc)))
     (looks_not key other old.key old.reader.says held apart silent) answer
 
 -- what it held by the count it lets go, after the look
 pub pinned_late : (key word : ℕ) (old new : Handed) (answer : Bool) → IsSome old.key → old.reader.says ≡ 0
     → PinsByHand key old new answer → MovesByHand key word old new answer
 pinned_late key word old new answer held silent pins =
-    moves_by key word old new answer (
+    let finds = pinned key old new answer pins in
+    let stays : goes_on old.reader.says word ≡ false = rw silent refl in
+    let one : steps_to_depart old.key ≡ 1 = grind arith in
+    let late : late_by old.reader.says word ≡ 2 = rw stays refl in (
       finds.steps,
       finds.named,
-      subst
-          (λ (b : Bool). TakesIn answer (finds_by_word old.reader)
-          (cond {A = List ℕ} b (name_number word ∷ []) [] ++ finds.named) new.reader.says finds.steps)
-          (sym stays) finds.takes,
-      subst (λ (n : ℕ). Gains n (model.Find key) old.reader new.reader (reply_of answer new.rows)) steps_so finds.gains,
+      rw stays finds.takes,
+      rw
+          (let steps : finds.steps + late_by old.reader.says word - 1 ≡ finds.steps + steps_to_depart old.key
+          = omega arith in steps)
+          finds.gains,
       finds.holds,
       finds.looks,
     )
-  where
-    finds : Finds answer [] (steps_to_depart old.key) key old new
-    finds = pinned key old new answer pins
-
-    one_step : (o : Option ℕ) → IsSome o → steps_to_depart o ≡ 1
-    one_step None none = absurd (cc)
-    one_step (Some other) some = refl
-
-    stays : goes_on old.reader.says word ≡ false
-    stays = ap (λ (n : ℕ). goes_on n word) silent
-
-    steps_so : finds.steps + steps_to_depart old.key ≡ finds.steps + late_by old.reader.says word - 1
-    steps_so =
-        let two : late_by old.reader.says word ≡ 2 = ap (λ (b : Bool). cond {A = ℕ} b 0 2) stays in
-        omega (arith, one_step old.key held)
 
 -- what a look and a load tell of the hand, whose seat they are made by
-module _ (key : ℕ) (before after : MapSeat) (held : Option Kept) (role : after.me.0.role ≡ before.me.0.role)
+module _ {key : ℕ} (before after : MapSeat) (held : Option Kept) (role : after.me.0.role ≡ before.me.0.role)
     (says : after.me.0.says ≡ before.me.0.says) where
   pub looked_in_vain : (slot word : ℕ) → (token before).holds ≡ Some slot → names_slot slot word ≡ false
       → Grows 1 [] (token before) (token after)
@@ -378,7 +269,7 @@ module _ (key : ℕ) (before after : MapSeat) (held : Option Kept) (role : after
       → AsksInVain key (handed before held) (handed after held)
       × (after.me.0.marks ≡ with_look before.me.0.marks key (name_number word))
   looked_in_vain slot word grips gone grows exact marks =
-      let is = marks ∙ ap (λ (b : Bool). found_again b (with_look before.me.0.marks key (name_number word))) gone in (
+      let is = rw gone at marks in (
         record {
           grows = grows;
           other = λ has. absurd (let yes = exact.1 has in let is_not = gone in cc);
@@ -422,17 +313,3 @@ pub hand_role : (own : Own) (held : Option Kept) (seat : MapSeat) → IsHand sea
 hand_role own None seat is = (Nothing, is.1.idle)
 hand_role own (Some kept) seat is = let role : Role = seat.me.0.role in
     (grip_of (holding role (is_sized (grip_of role))), is.holds.holds.holds.is)
-
--- who holds by its word says so
-pub loud_by_word : (own : Own) (held : Held) (seat : MapSeat) → Pins seat own held → 0 < held.says → 0 < seat.me.0.says
-loud_by_word own held seat pins loud = omega (arith, pins.holds.says, loud)
-
-pub finds_loud : (own : Own) (held : Held) (seat : MapSeat) → Pins seat own held → 0 < held.says
-    → finds_by_word (token seat) ≡ true
-finds_loud own held seat pins loud =
-    lt-ltb ((token seat).number - 1) (token seat).table.announcers
-    (omega (arith, pins.reader.number, pins.holds.worded loud))
-
-pub silent_by_count : (own : Own) (held : Held) (seat : MapSeat) → Pins seat own held → held.says ≡ 0
-    → seat.me.0.says ≡ 0
-silent_by_count own held seat pins silent = pins.holds.says ∙ silent

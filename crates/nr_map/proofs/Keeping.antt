@@ -1,6 +1,5 @@
 -- Calls of the writer that put no set: its slots have the sets that they had.
-use Rattle.std.proofs.Common.{Bool, List, [], ap, arith, cond, false, refl, subst, ℕ, ⊎_elim, ◌∙◌, ◌∷◌, ◌≡◌}
-use Rattle.std.proofs.Common.{append-nil}
+use Rattle.std.proofs.Common.{Bool, List, [], ap, arith, cond, false, refl, ℕ, ⊎_elim, ◌∙◌, ◌∷◌, ◌≡◌, append-nil}
 use Rattle.std.specs.Prelude.{Err}
 use Rattle.nr_core.proofs.Sums.{total-append}
 use Rattle.nr_core.specs.Marks.{LoggedLoad, Marks, Past, with_scan}
@@ -9,7 +8,6 @@ use Rattle.nr_core.specs.Puts.{put_count, puts_set}
 use Rattle.nr_core.specs.SlotLists.{SlotLists}
 use Rattle.nr_core.specs.Story.{entry}
 use Rattle.nr_core.specs.declared.calls.NoSlot.{NoSlot}
-use Rattle.nr_core.specs.declared.places.Retired.{Retired}
 use Rattle.nr_model.specs.Histories.{is_done}
 use Rattle.nr_model.specs.declared.batches.Delta.{Delta}
 use Rattle.nr_model.specs.declared.calls.Call.{Call}
@@ -57,7 +55,7 @@ module _ {old new : Caller} where
     puts = ap (λ (m : Marks). m.puts) marks;
     sets = ap (λ (m : Marks). m.sets) marks;
     reaped = ap (λ (m : Marks). m.reaped) marks;
-    living = λ slot lives. subst (λ (p : List Retired × Marks). Living p.0 p.1 slot) (λ j. (retired j, marks j)) lives;
+    living = λ slot lives. rw (retired, marks) at lives;
     many = many;
   }
 

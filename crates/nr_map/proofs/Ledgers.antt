@@ -1,11 +1,12 @@
 -- The sets that stand in slots and those that were let go, call by call: a call that puts a set lets go of the one that
 -- its slot had, and a reap of the one that it gives out.
-use Rattle.std.proofs.Common.{Bool, List, [], ap, arith, cond, false, get_or, get_or-set_other}
-use Rattle.std.proofs.Common.{get_or-set_same, inl, inr, length, length-set, nat_eq, refl, set, subst}
-use Rattle.std.proofs.Common.{suc, sym, take, true, zero, ℕ, ⊎_elim, ◌++◌, ◌+◌, ◌<◌, ◌∙◌, ◌∷◌, ◌≡◌, ◌≤◌, ◌≢◌, ◌⊎◌}
-use Rattle.std.specs.Prelude.{◌||◌, Some, nat_lt, replicate}
+use Rattle.std.proofs.Common.{Bool, List, [], ap, arith, cond, false, get_or, get_or-set_other, get_or-set_same, inl}
+use Rattle.std.proofs.Common.{inr, length, length-set, nat_eq, refl, set, subst, suc, sym, take, true, zero, ℕ, ⊎_elim}
+use Rattle.std.proofs.Common.{◌++◌, ◌+◌, ◌<◌, ◌∙◌, ◌∷◌, ◌≡◌, ◌≤◌, ◌≢◌, ◌⊎◌}
+use Rattle.std.specs.Prelude.{Some, nat_lt, replicate}
 use Rattle.std.proofs.lemmas.Bool.{eqb-false, le-ltb, lt-ltb}
-use Rattle.std.proofs.lemmas.List.{length-replicate}
+use Rattle.std.proofs.lemmas.Grind.{get_or-set_at}
+use Rattle.std.proofs.lemmas.List.{get_or-replicate, get_or_past, length-replicate}
 use lib.ListN.{get_elem?}
 use mathlib.Core.Logic.{dite}
 use mathlib.Core.Option.{some, some-injective, some-ne-none}
@@ -28,14 +29,13 @@ use Rattle.nr_core.specs.Story.{entry}
 use Rattle.nr_core.specs.Marks.{Marks}
 use Rattle.nr_core.specs.Pasts.{Living}
 use Rattle.nr_core.specs.Puts.{put_count, puts_set}
-use Rattle.nr_board.specs.Callers.{Caller, Table, map_at_opening}
+use Rattle.nr_board.specs.Callers.{Caller, map_at_opening}
 use Rattle.nr_board.specs.Entries.{AreCallers, is_reading}
 use Rattle.nr_board.specs.Reaping.{ready_to}
 use Rattle.nr_board.specs.SlotLists.{not_passed}
 use Rattle.nr_board.specs.WriterAnswers.{Publishes, Retires, RetiresOne}
-use Rattle.nr_map.specs.Reclaims.{GatheredStands, HandedOutOnce, Ledger, LedgerStays}
-use Rattle.nr_map.specs.Reclaims.{NobodyHoldsIt, OpeningBegins, ReapedOnce, StandsAfterReap}
-use Rattle.nr_map.specs.Reclaims.{StandsYet, had_number, standing, unreaped}
+use Rattle.nr_map.specs.Reclaims.{GatheredStands, HandedOutOnce, Ledger, LedgerStays, NobodyHoldsIt, OpeningBegins}
+use Rattle.nr_map.specs.Reclaims.{ReapedOnce, StandsAfterReap, had_number, standing, unreaped}
 use Rattle.nr_map.proofs.Standing.{count_both, count_cons, count_had, count_standing, stands_at, stands_nowhere}
 use Rattle.nr_map.proofs.Standing.{stands_there}
 
@@ -65,9 +65,7 @@ own_puts shape map (e ∷ log) legal callers =
     let none : puts_set e ≡ 0 = ap (λ (b : Bool). cond {A = ℕ} b 1 0) quiet in omega (arith, rest))
 
 some_inside : (l : List ℕ) (i x : ℕ) → get_or l i 0 ≡ suc x → i < length l
-some_inside [] i x is = absurd (omega arith)
-some_inside (y ∷ l) zero x is = omega arith
-some_inside (y ∷ l) (suc i) x is = omega (arith, some_inside l i x is)
+some_inside l i x is = grind (arith, get_or_past)
 
 -- LIVING SLOTS WERE TAKEN
 
@@ -102,32 +100,21 @@ lived old new mid key name slot names_are was = ⊎_elim
     (λ named.
     let names = old.marks.names in
     let near : named.0 < length names = omega (arith, named.1, ap length names_are, length-set names key name) in
-    let is : get_or (set names key name) named.0 0 ≡ suc slot
-    = ap (λ (l : List ℕ). get_or l named.0 0) (sym names_are) ∙ named.2 in
+    let is = rw names_are at named.2 in
     dite (ℕ_discrete named.0 key)
-    (λ same. inr
-    (sym (get_or-set_same names key name 0 (omega arith))
-    ∙ ap (λ (i : ℕ). get_or (set names key name) i 0) (sym same) ∙ is))
+    (λ same. inr (sym (get_or-set_at names key named.0 name 0 same (omega arith)) ∙ is))
     (λ other. inl (inl (named.0, near, sym (get_or-set_other names key named.0 name 0 other) ∙ is))))
     (λ retired. inl (subst (Living mid old.marks) retired.3 (was retired.0 retired.1 retired.2)))
 
 -- THE LAWS
 
 pub ledger_stays_lem : LedgerStays
-ledger_stays_lem old new gone table fresh puts reaped living many ledger =
-    let same : standing new ≡ standing old = λ j. unreaped (take (fresh j) (puts j)) (reaped j) in
-    let counts : (number : ℕ) → count_of_put (standing new) number ≡ count_of_put (standing old) number
-    = λ number. ap (λ (l : List ℕ). count_of_put l number) same in
-    let size = ap (λ (t : Table). t.shape.slots) table in record {
-      slots = (
-        ap length puts ∙ ledger.slots.0 ∙ sym size,
-        omega (arith, ledger.slots.1),
-        ap length reaped ∙ ledger.slots.2 ∙ sym size,
-      );
-      taken = λ slot lives. let low = ledger.taken slot (living slot lives) in omega arith;
-      put = λ number low. let one = ledger.put number (omega arith) in omega (arith, counts number);
-      later = λ number high. let none = ledger.later number (omega arith) in omega (arith, counts number);
-    }
+ledger_stays_lem old new gone table fresh puts reaped living many ledger = record {
+  slots = rw (puts, fresh, reaped, table) ledger.slots;
+  taken = λ slot lives. rw fresh (ledger.taken slot (living slot lives));
+  put = λ number low. rw (fresh, puts, reaped) (ledger.put number (omega arith));
+  later = λ number high. rw (fresh, puts, reaped) (ledger.later number (omega arith));
+}
 
 -- what stands, slot by slot
 count_stands : (writer : Caller) (gone : List ℕ) (number : ℕ) → Ledger writer gone
@@ -164,18 +151,15 @@ gathered_stands_lem writer reader current slot holds =
 
 pub stands_after_reap_lem : {Room : Type 0} (shows : Room → List Row → Type 0) → StandsAfterReap shows
 stands_after_reap_lem shows old new before after reader = (
-  λ reaps stands other.
-      subst (λ (c : Caller). StandsYet c reader) (sym reaps.new_is)
-      (λ slot holds.
+  λ reaps stands other. rw reaps.new_is (λ slot holds.
       let was = stands slot holds in (
         was.0,
         was.1,
-        get_or-set_other old.marks.reaped reaps.entry.slot slot true false
-            (λ same. other (holds ∙ ap (λ (n : ℕ). Some n) same))
+        get_or-set_other old.marks.reaped reaps.entry.slot slot true false (λ same. other (holds ∙ ap Some same))
             ∙ was.2,
       )),
-  λ held stands. subst (λ (c : Caller). StandsYet c reader) (sym held.8) stands,
-  λ nothing stands. subst (λ (c : Caller). StandsYet c reader) (sym nothing.1) stands,
+  λ held stands. rw held.8 stands,
+  λ nothing stands. rw nothing.1 stands,
 )
 
 module _ (steps : ℕ) (call : Call) (rows : List Row) (old new : Caller) (gone : List ℕ) (writes : old.number ≡ 0)
@@ -186,8 +170,7 @@ module _ (steps : ℕ) (call : Call) (rows : List Row) (old new : Caller) (gone 
   pub number_is : published.number ≡ put_count old.mine
   number_is = let gains = published.gains in
       let all = own_puts old.table.shape (map_at_opening old.table) new.seen gains.legal gains.callers in
-      let mine : entries_of new.seen 0 ≡ new.mine
-      = ap (entries_of new.seen) (sym (gains.number ∙ writes)) ∙ gains.own in
+      let mine = rw (gains.number, writes) at gains.own in
       omega (arith, all, ap put_count mine, published.count, put_now)
 
   puts_are : new.marks.puts ≡ set old.marks.puts published.slot published.number
@@ -289,11 +272,11 @@ module _ (steps : ℕ) (call : Call) (rows : List Row) (old new : Caller) (gone 
       (was_retired call old published.mid.retired new.retired published.retires) lives)
 
   pub ledger_goes_on : Ledger new (gone ++ had_number old published.slot)
-  ledger_goes_on = let size = ap (λ (t : Table). t.shape.slots) published.gains.table in record {
+  ledger_goes_on = record {
     slots = (
       long,
-      omega (arith, moved.room),
-      ap length flags_are ∙ length-set old.marks.reaped published.slot false ∙ ledger.slots.2 ∙ sym size,
+      rw published.gains.table moved.room,
+      rw (published.gains.table, flags_are) (length-set old.marks.reaped published.slot false ∙ ledger.slots.2),
     );
     taken = still_taken;
     put = λ number low. dite (ℕ_discrete published.number number)
@@ -313,8 +296,8 @@ module _ (steps : ℕ) (call : Call) (rows : List Row) (old new : Caller) (gone 
     where
       long : length new.marks.puts ≡ new.table.shape.slots
       long =
-          ap length puts_are ∙ length-set old.marks.puts published.slot published.number ∙ ledger.slots.0
-          ∙ sym (ap (λ (t : Table). t.shape.slots) published.gains.table)
+          rw (published.gains.table, puts_are)
+          (length-set old.marks.puts published.slot published.number ∙ ledger.slots.0)
 
       counts : (number : ℕ)
           → count_of_put (standing new) number + count_of_put (gone ++ had_number old published.slot) number
@@ -322,12 +305,8 @@ module _ (steps : ℕ) (call : Call) (rows : List Row) (old new : Caller) (gone 
       counts number =
           omega (
             arith,
-            count_standing number new.marks.puts new.marks.reaped new.fresh (omega (
-              arith,
-              long,
-              moved.room,
-              ap (λ (t : Table). t.shape.slots) published.gains.table,
-            )),
+            count_standing number new.marks.puts new.marks.reaped new.fresh
+                (rw (long, published.gains.table) moved.room),
             count_stands old gone number ledger,
             moved.counts number,
             count_both number gone (had_number old published.slot),
@@ -370,11 +349,7 @@ ready_there old scanned held later entry is =
     let there
     = waits_there _ old.retired (length held) entry
     (ap (λ (l : List Retired). get_elem? l (length held)) is ∙ at_seam held entry later) in
-    (there.0, there.1, first_of (get_or old.marks.reaped entry.slot false) _ there.2)
-  where
-    first_of : (a b : Bool) → (a || b) ≡ false → a ≡ false
-    first_of true b clash = absurd (cc)
-    first_of false b is = refl
+    (there.0, there.1, let passed = there.2 in grind arith)
 
 pub reaped_once_lem : ReapedOnce
 reaped_once_lem held later entry notes steps scanned loads old new gone waits is ledger =
@@ -410,13 +385,8 @@ reaped_once_lem held later entry notes steps scanned loads old new gone waits is
 
 -- THE OPENING
 
-abbrev index : List ℕ → ℕ → ℕ
-index l i = get_or l i 0
-
-zeros : (n i : ℕ) → index (replicate n 0) i ≡ 0
-zeros zero i = refl
-zeros (suc n) zero = refl
-zeros (suc n) (suc i) = zeros n i
+zeros : (n i : ℕ) → ◌≡◌ {A = ℕ} (get_or (replicate n 0) i 0) 0
+zeros n i = grind (arith, get_or-replicate {A = ℕ}, get_or_past {X = ℕ}, length-replicate {A = ℕ})
 
 pub opening_begins_lem : OpeningBegins
 opening_begins_lem shape words map writer readers opened =

@@ -7,9 +7,7 @@ pub mod SlotBounds
 pub mod HandSteps
 pub mod Pinning
 pub mod Tagging
-pub mod KeptTags
 pub mod FirstRows
-pub mod CountedFinds
 pub mod Loading
 pub mod FindsEach
 pub mod FindsGroups
@@ -19,5 +17,4 @@ pub mod Ledgers
 pub mod Keeping
 pub mod Remainders
 pub mod GivenBack
-pub mod Evictions
 pub mod Answered

@@ -1,6 +1,6 @@
 -- Loads ahead, as loops make them one by one.
-use Rattle.std.proofs.Common.{◌≡◌, ℕ, zero, suc, ◌+◌, ◌*◌, min, List, [], ◌∷◌, ◌++◌, length, refl, sym, ap, ◌∙◌}
-use Rattle.std.proofs.Common.{subst, arith, append_assoc, append-nil}
+use Rattle.std.proofs.Common.{◌≡◌, ℕ, zero, suc, ◌+◌, ◌*◌, min, List, [], ◌∷◌, ◌++◌, length, refl, sym, ap, ◌∙◌, arith}
+use Rattle.std.proofs.Common.{append_assoc, append-nil}
 use Rattle.std.specs.List.{flat_map, zip}
 use Rattle.std.proofs.lemmas.List.{length-append, length-map, map-append}
 use Rattle.std.proofs.lemmas.Grind.{flat_map-append}
@@ -8,9 +8,9 @@ use Rattle.std.proofs.lemmas.Slice.Zip.{length-zip}
 use Rattle.nr_words.specs.declared.layout.Layout.{Layout}
 use Rattle.nr_board.specs.Callers.{Caller}
 use Rattle.nr_board.specs.Views.{Loaded}
-use Rattle.nr_map.specs.LoadsAhead.{LoadsKeys, LoadsLines, LoadsOfSets, LoadsPlaces, LoadsSets, LoadsTwo}
-use Rattle.nr_map.specs.LoadsAhead.{begin_of, both_loads, both_places, further_places, line_places, load_of}
-use Rattle.nr_map.specs.LoadsAhead.{loads_of_key, more_lines, more_of, two_places, with_loads}
+use Rattle.nr_map.specs.LoadsAhead.{LoadsKeys, LoadsLines, LoadsOfSets, LoadsPlaces, LoadsSets, LoadsTwo, begin_of}
+use Rattle.nr_map.specs.LoadsAhead.{both_loads, both_places, further_places, line_places, load_of, loads_of_key}
+use Rattle.nr_map.specs.LoadsAhead.{more_lines, more_of, two_places, with_loads}
 
 -- loads add up
 loads_none : (caller : Caller) → caller ≡ with_loads [] caller
@@ -28,7 +28,7 @@ loads_both first then caller =
 loads_then : (first then : List Loaded) (a b c : Caller) → b ≡ with_loads first a → c ≡ with_loads then b
     → c ≡ with_loads (first ++ then) a
 loads_then first then a b c here there =
-    there ∙ ap (λ (caller : Caller). with_loads then caller) here ∙ loads_both first then a
+    rw (there, here) (loads_both first then a)
 
 pub places_none : (caller : Caller) → LoadsPlaces [] caller caller
 places_none caller = record { loads = []; at = refl; made = loads_none caller }
@@ -57,8 +57,7 @@ unfolding place_one places_both
 keys_more keys words key word a b c so made = record {
   loads = places_both keys (key ∷ []) a b c so.loads (place_one key word b c made);
   words_are =
-      map-append (λ (load : Loaded). load.word) so.loads.loads (load_of key word ∷ [])
-      ∙ ap (λ (l : List ℕ). l ++ word ∷ []) so.words_are;
+      rw (map-append (λ (load : Loaded). load.word) so.loads.loads (load_of key word ∷ []), so.words_are) refl;
 }
 
 pub keys_count : (keys words : List ℕ) (a b : Caller) → (so : LoadsKeys keys words a b)
@@ -80,15 +79,16 @@ module _ (sizes : Layout) where
       let both : Loaded × Loaded = (load_of first count, load_of (first + min 8 (more_of sizes word)) two.0) in record {
         loads = so.loads ++ both ∷ [];
         at =
-            map-append both_places so.loads (both ∷ [])
-            ∙ ap (λ (l : List (ℕ × ℕ)). l ++ two_places sizes word ∷ []) so.at
-            ∙ sym (map-append (two_places sizes) words (word ∷ []));
+            rw (
+              map-append both_places so.loads (both ∷ []),
+              so.at,
+              map-append (two_places sizes) words (word ∷ []),
+            ) refl;
         counts_are =
-            map-append (λ (pair : Loaded × Loaded). pair.0.word) so.loads (both ∷ [])
-            ∙ ap (λ (l : List ℕ). l ++ count ∷ []) so.counts_are;
+            rw (map-append (λ (pair : Loaded × Loaded). pair.0.word) so.loads (both ∷ []), so.counts_are) refl;
         made =
-            loads_then (flat_map both_loads so.loads) (both_loads both) a b c so.made two.1
-            ∙ ap (λ (l : List Loaded). with_loads l a) (sym (flat_map-append both_loads so.loads (both ∷ [])));
+            rw (flat_map-append both_loads so.loads (both ∷ []))
+            (loads_then (flat_map both_loads so.loads) (both_loads both) a b c so.made two.1);
       }
 
   -- how long a list is of so many for each
@@ -125,10 +125,11 @@ module _ (sizes : Layout) where
   lines_more words counts word count a b c long so more =
       let each = further_places sizes in
       let pairs = zip words counts in
-      subst (λ (places : List ℕ). LoadsPlaces places a c)
-      (sym
-      (ap (flat_map each) (zip_more words counts word count long) ∙ flat_map-append each pairs ((word, count) ∷ [])
-      ∙ ap (λ (l : List ℕ). flat_map each pairs ++ l) (append-nil (each (word, count)))))
+      rw (
+        zip_more words counts word count long,
+        flat_map-append each pairs ((word, count) ∷ []),
+        append-nil (each (word, count)),
+      )
       (places_both (flat_map each pairs) (each (word, count)) a b c so more)
 
   -- a set of few rows has no further lines
@@ -144,8 +145,7 @@ module _ (sizes : Layout) where
   pub no_lines : (words counts : List ℕ) (caller : Caller) → more_lines sizes.rows ≡ 0
       → LoadsLines sizes words counts caller caller
   no_lines words counts caller few =
-      subst (λ (places : List ℕ). LoadsPlaces places caller caller) (sym (no_places (zip words counts) few))
-      (places_none caller)
+      rw (no_places (zip words counts) few) (places_none caller)
 
   line_count : (begin more lines : ℕ) → length (line_places begin more lines) ≡ lines
   line_count begin more zero = refl

@@ -1,51 +1,35 @@
 -- What a hold comes to: for a reader that held nothing, for a hand that let go what it held, and for one that reads the
 -- rows then.
 use Rattle.std.proofs.Common.{◌≡◌, ℕ, ◌+◌, ◌-◌, ◌*◌, ◌<◌, Option, Some, None, ⊎_elim, inl, inr, refl, ap, ◌∙◌, sym}
-use Rattle.std.proofs.Common.{subst, arith, Bool, cond, true, List, [], ◌∷◌, ◌++◌, length}
-use Rattle.std.specs.Prelude.{◌&&◌, Ok, Err, nat_lt}
-use Rattle.std.proofs.lemmas.Bool.{lt-ltb}
+use Rattle.std.proofs.Common.{subst, arith, true, List, length}
+use Rattle.std.specs.Prelude.{Ok, Err}
+use Rattle.std.proofs.lemmas.Bool.{le-ltb, lt-ltb}
 use Rattle.nr_words.specs.KeyWords.{is_filled}
-use Rattle.nr_model.specs.Histories.{Entry, after}
-use Rattle.nr_model.specs.Maps.{state_of}
-use Rattle.nr_model.specs.declared.calls.Call.TheVariants as model
-use Rattle.nr_model.specs.declared.calls.Reply.TheVariants as reply
 use Rattle.nr_model.specs.declared.rows.Row.{Row}
 use Rattle.nr_model.specs.Rows.{IsRowSet}
-use Rattle.nr_core.specs.Slots.{name_number}
-use Rattle.nr_core.specs.Story.{entry}
 use Rattle.nr_core.specs.declared.roles.Role.{Role}
-use Rattle.nr_core.specs.Marks.{LoggedLoad, Marks, acted, gripped, with_loads}
-use Rattle.nr_core.specs.Puts.{put_number}
+use Rattle.nr_core.specs.Marks.{Marks, gripped}
 use Rattle.nr_board.proofs.Holding.{rests_gains}
 use Rattle.nr_board.proofs.Tokens.{MapSeat, grows_rests}
-use Rattle.nr_board.specs.Callers.{Caller, Gains, Rests, Table, map_at_opening, token}
-use Rattle.nr_board.specs.Holds.{FindsRows, HeldIn, HoldsAfter, LooksAgain, MovesTo, finds_by_word, looks_at}
-use Rattle.nr_board.specs.Kinds.{kind_of}
+use Rattle.nr_board.specs.Callers.{Caller, Rests, Table, token}
+use Rattle.nr_board.specs.Holds.{FindsRows, HoldsAfter, MovesTo, finds_by_word}
 use Rattle.nr_board.specs.Views.{grip_of, rows_held}
 use Rattle.nr_board.specs.declared.answers.Found.TheVariants as found
-use Rattle.nr_board.specs.declared.answers.KeyKind.TheVariants as kind
 use Rattle.nr_board.specs.declared.board.Own.{Own}
 use Rattle.nr_board.specs.declared.holds.Held.{Held}
 use Rattle.nr_map.specs.declared.hand.Kept.{Kept}
+use Rattle.nr_map.specs.Answers.{FindsByCounts}
 use Rattle.nr_map.specs.Pins.{HoldsSlot, Pins, PinsKey}
-use Rattle.nr_map.specs.Hands.{CopiesHeld, FindsAndReads, FindsHeld, FindsKept, Handed, HoldsAnew, HoldsKey}
-use Rattle.nr_map.specs.Hands.{KeepsByHand, LetsGo, MovesByHand, PinsByHand}
-use Rattle.nr_map.specs.Hands.{departed, goes_on, handed, steps_to_depart}
-use Rattle.nr_map.proofs.HandSteps.{finds_loud, holds_slot, loud_by_word}
-
--- what a hold says of the table behind a map, it says of the map
-pub on_map : {board map : Table} (key : ℕ) (old new : MapSeat) (held : Option Held) → board ≡ map
-    → HoldsAfter 0 (finds_by_word (token old)) board key old.me.0.marks old new held
-    → HoldsAfter 0 (finds_by_word (token old)) map key old.me.0.marks old new held
-on_map key old new held =
-    subst (λ (t : Table). HoldsAfter 0 (finds_by_word (token old)) t key old.me.0.marks old new held)
+use Rattle.nr_map.specs.Hands.{HoldsAnew, CopiesHeld, FindsAndReads, FindsHeld, FindsKept, Handed, HoldsKey}
+use Rattle.nr_map.specs.Hands.{KeepsByHand, LetsGo, MovesByHand, PinsByHand, departed, goes_on, handed, steps_to_depart}
+use Rattle.nr_map.proofs.HandSteps.{holds_slot}
 
 -- a reader that found a hole comes back
-pub pins_hole : (table : Table) (key : ℕ) (reader back : Caller) (old new : MapSeat) → token old ≡ reader
+pub pins_hole : {table : Table} {key : ℕ} {reader back : Caller} {old new : MapSeat} → token old ≡ reader
     → back ≡ token new → HoldsAfter 0 (finds_by_word (token old)) table key old.me.0.marks old new None
     → PinsKey key reader (Err back)
-pins_hole table key reader back old new is came holds =
-    subst (λ (p : Caller × Caller). PinsKey key p.0 (Err p.1)) (λ j. (is j, sym came j)) (
+pins_hole is came holds =
+    rw (← is, came) (
       record {
         steps = holds.steps;
         named = holds.named;
@@ -59,16 +43,16 @@ pins_hole table key reader back old new is came holds =
     )
 
 -- a hold of a key's set, by the seats before and after it
-module _ (table : Table) (key : ℕ) (old new : MapSeat) (held : Held)
+module _ {table : Table} {key : ℕ} {old new : MapSeat} {held : Held}
     (holds : HoldsAfter 0 (finds_by_word (token old)) table key old.me.0.marks old new (Some held)) where
   holds_its_slot : HoldsSlot (token new)
   holds_its_slot = holds_slot table held new holds.answered.held_as
 
   -- a reader's pin
-  pub pins_key : (reader : Caller) → token old ≡ reader
+  pub pins_key : {reader : Caller} → token old ≡ reader
       → PinsKey key reader (Ok (record { reader = token new; rows = rows_held new.me.0.role }))
-  pins_key reader is =
-      subst (λ (r : Caller). PinsKey key r (Ok (record { reader = token new; rows = rows_held new.me.0.role }))) is (
+  pins_key is =
+      rw (← is) (
         record {
           steps = holds.steps;
           named = holds.named;
@@ -83,7 +67,7 @@ module _ (table : Table) (key : ℕ) (old new : MapSeat) (held : Held)
       )
 
   -- a hand's, which let go what it held
-  module _ (first between : Handed) (lets : LetsGo first between) (is : between.reader ≡ token old) where
+  module _ {first between : Handed} (lets : LetsGo first between) (is : between.reader ≡ token old) where
     departed_loads : (held : Option ℕ) (marks : Marks) → (departed held marks).loads ≡ marks.loads
     departed_loads None marks = refl
     departed_loads (Some key) marks = refl
@@ -99,17 +83,11 @@ module _ (table : Table) (key : ℕ) (old new : MapSeat) (held : Held)
       steps = holds.steps;
       named = holds.named;
       says = held.says;
-      holds_in =
-          subst (λ (b : Bool). HeldIn b holds.named held.says holds.steps)
-          (λ j. nat_lt (rests.number j - 1) (rests.table j).announcers) holds.takes;
-      looks =
-          ap (λ (m : Marks). m.loads) holds.answered.marks_are
-          ∙ ap (λ (l : List LoggedLoad). l ++ looks_at key holds.named)
-          (ap (λ (m : Marks). m.loads) marks_between ∙ departed_loads first.key first.reader.marks);
+      holds_in = rw (← rests.number, ← rests.table) holds.takes;
+      looks = rw (holds.answered.marks_are, marks_between, departed_loads) refl;
       gains =
-          rests_gains (steps_to_depart first.key) (holds.steps + 0) (holds.steps + steps_to_depart first.key)
-          first.reader (token old) (token new) (model.Find key) (reply.Rows (rows_held new.me.0.role)) (omega arith)
-          rests holds.answered.gains;
+          rests_gains (steps_to_depart first.key) (holds.steps + 0) (holds.steps + steps_to_depart first.key) _ _ _ _ _
+          (omega arith) rests holds.answered.gains;
     }
 
     pub pins_by_hand : (kept : Kept) → kept.key ≡ key → PinsByHand key first (handed new (Some kept)) true
@@ -122,65 +100,50 @@ module _ (table : Table) (key : ℕ) (old new : MapSeat) (held : Held)
             subst (λ (t : Table). IsRowSet t.shape.rows (rows_held new.me.0.role))
             (sym holds.answered.held_as.holds.own ∙ finds.gains.table) holds.answered.held_as.holds.holds.row_set;
         holds = holds_its_slot;
-        marks =
-            holds.answered.marks_are
-            ∙ (λ j. acted
-            (with_loads (marks_between j) (sym (ap (λ (m : Marks). m.loads) holds.answered.marks_are) j))
-            (put_number new.me.0.seen key));
+        marks = rw (← marks_between, holds.answered.marks_are) refl;
       },
       holds.answered.held_as.says,
     )
 
 -- a hand that holds by its word went on to a key's set
-pub moves_by_hand : (table : Table) (key word : ℕ) (own : Own) (old new : MapSeat) (was kept : Kept) (held : Held)
+pub moves_by_hand : {table : Table} {key word : ℕ} {own : Own} {old new : MapSeat} (was kept : Kept) {held : Held}
     → Pins old own was.set → 0 < was.set.says → kept.key ≡ key → MovesTo table key word old new (Some held)
     → MovesByHand key word (handed old (Some was)) (handed new (Some kept)) true
-moves_by_hand table key word own old new was kept held pins loud same moves =
+moves_by_hand {table} {key} {word} {own} {old} {new} was kept {held} pins loud same moves =
     let so = moves.answered in
-    let by = finds_loud own was.set old pins loud in
+    let by : finds_by_word (token old) ≡ true
+    = lt-ltb ((token old).number - 1) (token old).table.announcers
+    (omega (arith, pins.reader.number, pins.holds.worded loud)) in
     let goes : goes_on old.me.0.says word ≡ is_filled word
-    = ap (λ (b : Bool). b && is_filled word) (lt-ltb 0 old.me.0.says (loud_by_word own was.set old pins loud)) in (
+    = rw (lt-ltb 0 old.me.0.says (omega (arith, pins.holds.says, loud))) refl in (
       moves.steps,
       moves.named,
-      subst
-          (λ (p : Bool × Bool × ℕ). HeldIn p.0 (cond {A = List ℕ} p.1 (name_number word ∷ []) [] ++ moves.named) p.2
-          moves.steps)
-          (λ j. (sym by j, sym goes j, sym so.held_as.says j)) moves.takes,
-      subst
-          (λ (b : Bool). Gains (moves.steps + cond {A = ℕ} b 0 2 - 1) (model.Find key) (token old) (token new)
-          (reply.Rows (rows_held new.me.0.role)))
-          (sym goes) so.gains,
+      rw (by, goes, so.held_as.says) moves.takes,
+      rw goes so.gains,
       record {
         key_is = ap Some same;
         row_set =
             subst (λ (t : Table). IsRowSet t.shape.rows (rows_held new.me.0.role))
             (sym so.held_as.holds.own ∙ so.gains.table) so.held_as.holds.holds.row_set;
         holds = holds_slot table held new so.held_as;
-        marks =
-            so.marks_are
-            ∙ (λ j. acted
-            (with_loads (departed (Some was.key) old.me.0.marks) (sym (ap (λ (m : Marks). m.loads) so.marks_are) j))
-            (put_number new.me.0.seen key));
+        marks = rw so.marks_are refl;
       },
       ap (λ (m : Marks). m.loads) so.marks_are,
     )
 
 -- a hand that keeps its hold read on, of what it holds
-module _ (key : ℕ) (old mid new : Handed) (more : ℕ) (copies : CopiesHeld more mid new) where
+module _ {key : ℕ} {old mid new : Handed} {more : ℕ} (copies : CopiesHeld more mid new) where
   still_holds : HoldsKey key old mid → HoldsKey key old new
   still_holds so = record {
     key_is = copies.key_is ∙ so.key_is;
-    row_set = subst (IsRowSet old.reader.table.shape.rows) (sym copies.rows) so.row_set;
+    row_set = rw copies.rows so.row_set;
     holds = record {
       slot = so.holds.slot;
       is = copies.holds ∙ so.holds.is;
-      inside = subst (λ (t : Table). so.holds.slot < t.shape.slots) (sym copies.rests.table) so.holds.inside;
+      inside = rw copies.rests.table so.holds.inside;
       said = λ loud. copies.says ∙ so.holds.said (omega (arith, loud, copies.says));
     };
-    marks =
-        copies.marks ∙ so.marks
-        ∙ (λ j. acted (with_loads (departed old.key old.reader.marks) (sym copies.marks j).loads)
-        (put_number (sym copies.rests.seen j) key));
+    marks = rw (copies.marks, copies.rests.seen) so.marks;
   }
 
   pub reads_on : (read sum : ℕ) → sum ≡ read + more → FindsAndReads read key old mid → FindsAndReads sum key old new
@@ -188,20 +151,13 @@ module _ (key : ℕ) (old mid new : Handed) (more : ℕ) (copies : CopiesHeld mo
       (λ again. inl
       (record {
         held = again.held;
-        gains =
-            grows_rests (read + 1) more (sum + 1) old.reader
-            (entry old.reader.number (model.Find key) (reply.Rows old.rows) ∷ []) mid.reader new.reader
-            (omega (arith, is)) again.gains copies.rests;
-        put =
-            subst
-            (λ (p : Table × List Entry). (kind_of (state_of (after (map_at_opening p.0) p.1) key) ≡ kind.Rows)
-            × (put_number p.1 key ≡ old.reader.marks.put))
-            (λ j. (sym copies.rests.table j, sym copies.rests.seen j)) again.put;
+        gains = grows_rests (read + 1) more (sum + 1) _ _ _ _ (omega (arith, is)) again.gains copies.rests;
+        put = rw (copies.rests.table, copies.rests.seen) again.put;
         key_is = copies.key_is ∙ again.key_is;
         rows = copies.rows ∙ again.rows;
         holds = copies.holds ∙ again.holds;
         says = copies.says ∙ again.says;
-        marks = subst (LooksAgain key old.reader.holds true old.reader.marks) (sym copies.marks) again.marks;
+        marks = rw copies.marks again.marks;
       }))
       (λ anew. let so = anew.1 in let f = so.2 in inr (
         (λ own.
@@ -221,13 +177,9 @@ module _ (key : ℕ) (old mid new : Handed) (more : ℕ) (copies : CopiesHeld mo
             holds_in = f.holds_in;
             looks = ap (λ (m : Marks). m.loads) copies.marks ∙ f.looks;
             gains =
-                subst
-                (λ (rows : List Row). Gains (f.steps + (so.0 + sum)) (model.Find key) old.reader new.reader
-                (reply.Rows rows))
-                (sym copies.rows)
-                (grows_rests (f.steps + (so.0 + read)) more (f.steps + (so.0 + sum)) old.reader
-                (entry old.reader.number (model.Find key) (reply.Rows mid.rows) ∷ []) mid.reader new.reader
-                (omega (arith, is)) f.gains copies.rests);
+                rw copies.rows
+                (grows_rests (f.steps + (so.0 + read)) more (f.steps + (so.0 + sum)) _ _ _ _ (omega (arith, is)) f.gains
+                copies.rests);
           },
           so.3,
           still_holds so.4,
@@ -250,7 +202,15 @@ module _ {Room : Type 0} (shows : Room → List Row → Type 0) (key : ℕ) (old
         anew.0,
         (
           subst (λ (l : List Row). HoldsAnew (2 * length l) key old new) (sym copies.rows) anew.1,
-          subst (shows room) (sym copies.rows) shown,
+          rw copies.rows shown,
         ),
       ))
-      (reads_on key old mid new (2 * length mid.rows) copies 0 (2 * length mid.rows) (omega arith) keeps)
+      (reads_on copies 0 (2 * length mid.rows) (omega arith) keeps)
+
+-- where no reader has a word, finds take the steps of the counted way
+pub finds_by_counts_lem : FindsByCounts
+finds_by_counts_lem more key rows old new none =
+    let by_count = le-ltb (old.number - 1) old.table.announcers (omega (arith, none)) in (
+      (λ finds. let two = (rw by_count at finds.holds_in).2 in rw two at finds.gains),
+      (λ finds. let one = (rw by_count at finds.finds_in).1 in rw one at finds.gains),
+    )

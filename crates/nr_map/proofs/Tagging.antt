@@ -1,6 +1,6 @@
--- A find of a set that begins with a tag: its reader holds the key's set, reads of it, and lets it go.
+-- A find of a set that may begin with a tag: its reader holds the key's set, reads of it, and lets it go, or keeps it.
 use Rattle.std.proofs.Common.{◌≡◌, ℕ, suc, ◌+◌, ◌-◌, ◌*◌, Some, List, [], ◌∷◌, length, drop, get_or, refl, ap, ◌∙◌, sym}
-use Rattle.std.proofs.Common.{subst, arith}
+use Rattle.std.proofs.Common.{subst, arith, true}
 use Rattle.std.specs.Prelude.{◌↔◌, IsTrue, nat_eq, min, slice_get}
 use Rattle.std.proofs.lemmas.Bool.{eqb-true, eq-eqb}
 use Rattle.std.proofs.lemmas.Option.{get_or_from_slice_get}
@@ -12,8 +12,9 @@ use Rattle.nr_board.specs.Callers.{Rests, Table, token}
 use Rattle.nr_board.specs.Holds.{FindsRows, HoldsAfter, finds_by_word}
 use Rattle.nr_board.specs.Views.{rows_held}
 use Rattle.nr_board.specs.declared.holds.Held.{Held}
-use Rattle.nr_map.specs.Tagged.{IsTagged, FindsTagged}
-use Rattle.nr_map.specs.declared.tagged.Tagged.{Tagged}
+use Rattle.nr_map.specs.Hands.{CopiesHeld, FindsAndReads, Handed, KeepsByHand}
+use Rattle.nr_map.specs.Tagged.{FindsTagged, FindsTaggedKept, IsTagged, KeepsTagged}
+use Rattle.nr_map.proofs.Pinning.{reads_on}
 use Rattle.nr_map.specs.declared.tagged.Tagged.TheVariants as tagged
 
 -- a set whose first row has the tag's first number begins with the tag where it has the second one, too
@@ -30,7 +31,8 @@ begins (row ∷ rows) first tag is same = (
     row_is = get_or_from_slice_get (row ∷ rows) 0 first first is
 
 -- between the hold and the release it reads the first row
-module _ (table : Table) (key : ℕ) (old found read left last : MapSeat) (held : Held) (own : (token old).table ≡ table)
+module _ {table : Table} {key : ℕ} {old found : MapSeat} (read left last : MapSeat) {held : Held}
+    (own : (token old).table ≡ table)
     (holds : HoldsAfter 0 (finds_by_word (token old)) table key old.me.0.marks old found (Some held))
     (first : Rests (2 * min 1 (length (rows_held found.me.0.role))) (token found) (token read))
     (kept : read.me.0.marks ≡ found.me.0.marks) (release : Rests 1 (token left) (token last))
@@ -49,21 +51,20 @@ module _ (table : Table) (key : ℕ) (old found read left last : MapSeat) (held 
 
   -- the tag's set: then those behind it
   pub has_tag : {Room : Type 0} (shows : Room → List Row → Type 0) (tag : Row) (copied : MapSeat) (before after : Room)
-      (answer : Tagged) → IsTagged tag (rows_held found.me.0.role)
+      → IsTagged tag (rows_held found.me.0.role)
       → rows_held read.me.0.role ≡ rows_held found.me.0.role → shows after (drop 1 (rows_held read.me.0.role))
       → Rests (2 * (length (rows_held read.me.0.role) - 1)) (token read) (token copied)
-      → copied.me.0.marks ≡ read.me.0.marks → left ≡ copied → answer ≡ tagged.Rows
-      → FindsTagged shows tag key (token old) before (token last) after answer
-  has_tag shows tag copied before after answer (rows, set) same shown others marks is answer_is =
-      subst (λ (a : Tagged). FindsTagged shows tag key (token old) before (token last) after a) (sym answer_is) (
+      → copied.me.0.marks ≡ read.me.0.marks → left ≡ copied
+      → FindsTagged shows tag key (token old) before (token last) after tagged.Rows
+  has_tag shows tag copied before after (rows, set) same shown others marks is = (
         rows,
         subst (λ (l : List Row). FindsRows (2 * length (tag ∷ rows) + 1) key l (token old) (token last)) set
             (finds_rows (2 * length (tag ∷ rows)) (2 * length (tag ∷ rows) + 1) refl
             (ap (λ (s : MapSeat). s.me.0.marks) is ∙ marks ∙ kept)
             (subst (λ (s : MapSeat). Rests (2 * length (tag ∷ rows)) (token found) (token s)) (sym is)
             (rests_both _ _ (2 * length (tag ∷ rows)) (token found) (token read) (token copied) steps first others))),
-        subst (λ (l : List Row). shows after (drop 1 l)) (same ∙ set) shown,
-        subst (λ (l : List Row). IsRowSet (token old).table.shape.rows l) set
+        rw (same, set) at shown,
+        subst (IsRowSet (token old).table.shape.rows) set
             (subst (λ (t : Table). IsRowSet t.shape.rows (rows_held found.me.0.role)) (sym own)
             holds.answered.held_as.holds.holds.row_set),
       )
@@ -80,14 +81,45 @@ module _ (table : Table) (key : ℕ) (old found read left last : MapSeat) (held 
 
   -- another set: nothing more
   pub has_no_tag : {Room : Type 0} (shows : Room → List Row → Type 0) (tag : Row) (before after : Room)
-      (answer : Tagged) → (IsTagged tag (rows_held found.me.0.role) → ⊥) → left ≡ read → after ≡ before
-      → answer ≡ tagged.Other → FindsTagged shows tag key (token old) before (token last) after answer
-  has_no_tag shows tag before after answer other is stays answer_is =
-      let some = min 1 (length (rows_held found.me.0.role)) in
-      subst (λ (a : Tagged). FindsTagged shows tag key (token old) before (token last) after a) (sym answer_is) (
+      → (IsTagged tag (rows_held found.me.0.role) → ⊥) → left ≡ read → after ≡ before
+      → FindsTagged shows tag key (token old) before (token last) after tagged.Other
+  has_no_tag shows tag before after other is stays =
+      let some = min 1 (length (rows_held found.me.0.role)) in (
         rows_held found.me.0.role,
         finds_rows (2 * some) (2 * some + 1) refl (ap (λ (s : MapSeat). s.me.0.marks) is ∙ kept)
             (subst (λ (s : MapSeat). Rests (2 * some) (token found) (token s)) (sym is) first),
         (λ rows set. other (rows, set)),
         stays,
       )
+
+-- A HAND THAT KEEPS ITS HOLD
+
+-- the first row was read, of which it tells
+module _ (tag : Row) (key : ℕ) (old mid new : Handed) (keeps : KeepsByHand key old mid true)
+    (copies : CopiesHeld (2 * min 1 (length mid.rows)) mid new) where
+  pub kept_tagged : IsTagged tag mid.rows → KeepsTagged tag key old new tagged.Rows
+  kept_tagged (rows, is) =
+      let long : length mid.rows ≡ suc (length rows) = ap (λ (l : List Row). length l) is in (
+        (rows, copies.rows ∙ is),
+        reads_on copies 0 2 (omega (arith, long)) keeps,
+      )
+
+  pub kept_other : (IsTagged tag mid.rows → ⊥) → KeepsTagged tag key old new tagged.Other
+  kept_other other = (
+    (λ has. other (has.0, sym copies.rows ∙ has.1)),
+    subst (λ (l : List Row). FindsAndReads (2 * min 1 (length l)) key old new) (sym copies.rows)
+        (reads_on copies 0 (2 * min 1 (length mid.rows)) (omega arith) keeps),
+  )
+
+-- and those behind it
+pub read_behind : {Room : Type 0} (shows : Room → List Row → Type 0) (tag : Row) (key : ℕ) (old mid new : Handed)
+    (before room : Room) → KeepsTagged tag key old mid tagged.Rows
+    → CopiesHeld (2 * (length mid.rows - 1)) mid new → shows room (drop 1 mid.rows)
+    → FindsTaggedKept shows tag key old before new room tagged.Rows
+read_behind shows tag key old mid new before room ((rows, is), keeps) copies shown =
+    let long : length mid.rows ≡ suc (length rows) = ap (λ (l : List Row). length l) is in (
+      rows,
+      copies.rows ∙ is,
+      reads_on copies 2 (2 * length (tag ∷ rows)) (omega (arith, long)) keeps,
+      rw is at shown,
+    )

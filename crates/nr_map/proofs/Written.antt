@@ -1,30 +1,25 @@
 -- What a find answers after a put of its key.
-use Rattle.std.proofs.Common.{◌≡◌, ◌≢◌, ℕ, ◌+◌, ◌<◌, Bool, true, false, ◌&&◌, ◌==◌, List, [], ◌∷◌, ◌++◌, length, ⊎_elim}
-use Rattle.std.proofs.Common.{inl, inr, ◌⊎◌, ap, subst, refl, sym, ◌∙◌, arith, append_assoc, Result, Ok, Err}
+use Rattle.std.proofs.Common.{◌≡◌, ◌≢◌, ℕ, ◌<◌, Bool, true, false, ◌&&◌, ◌==◌, List, [], ◌∷◌, ◌++◌, length, ⊎_elim, inl}
+use Rattle.std.proofs.Common.{inr, ◌⊎◌, ap, subst, refl, sym, ◌∙◌, arith, append_assoc}
 use Rattle.std.specs.List.{count_by}
-use Rattle.std.specs.Prelude.{if◌then◌else◌}
 use Rattle.std.proofs.lemmas.Bool.{cases_eq, cases_Bool, cases_lt, eq-eqb, ne_eqb}
 use Rattle.std.proofs.lemmas.List.{length-set, length-replicate}
 use Rattle.nr_core.proofs.Histories.{length-after}
 use Rattle.nr_core.specs.Story.{entry}
 use Rattle.nr_core.specs.Puts.{puts_at}
 use Rattle.nr_model.proofs.LawLemmas.{legal_begins_lem, legal_goes_on_lem}
-use Rattle.nr_board.specs.Callers.{Table, map_at_opening}
+use Rattle.nr_board.specs.Callers.{map_at_opening}
 use Rattle.nr_model.specs.declared.rows.Row.{Row}
-use Rattle.nr_model.specs.declared.batches.ApplyFault.{ApplyFault}
-use Rattle.nr_model.specs.declared.batches.ApplyFault.TheVariants as fault
 use Rattle.nr_model.specs.declared.calls.Call.{Call}
-use Rattle.nr_model.specs.declared.calls.Call.TheVariants.{Find, Ask, Fill, Update, Replace, Evict, Cancel}
+use Rattle.nr_model.specs.declared.calls.Call.TheVariants.{Find}
 use Rattle.nr_model.specs.declared.calls.Reply.TheVariants as reply
 use Rattle.nr_model.specs.declared.states.KeyState.{KeyState}
 use Rattle.nr_model.specs.declared.states.KeyState.TheVariants.{Hole, Asked, Rows}
-use Rattle.nr_model.specs.Batches.{applied}
-use Rattle.nr_model.specs.Maps.{PartialMap, applied_reply, rows_or, call_key, find_reply, is_filled_key, next, reply_at}
-use Rattle.nr_model.specs.Maps.{reply_to, state_after, state_of}
+use Rattle.nr_model.specs.Maps.{PartialMap, call_key, find_reply, is_filled_key, next, reply_at, reply_to, state_after}
+use Rattle.nr_model.specs.Maps.{state_of}
 use Rattle.nr_model.specs.Histories.{Entry, IsLegal, after, is_done}
 use Rattle.nr_model.proofs.HistoryLemmas.{count_by-cons, one, state_of-next_other, state_of-next_same}
-use Rattle.nr_map.specs.Written.{FindsWhatItHeard, FindsWritten, LastPut, NonePut, ReadsNoOlder}
-use Rattle.nr_map.specs.Written.{evicts_at, is_evicted}
+use Rattle.nr_map.specs.Written.{FindsWhatItHeard, FindsWritten, LastPut, NonePut, ReadsNoOlder, evicts_at, is_evicted}
 
 -- What a call leaves of a key's state: where it put a set, the key is filled; where it put none, a set that stands
 -- there stood there before; and where it evicted none, a filled key stays filled.
@@ -36,46 +31,10 @@ record Leaves (puts evicts : Bool) (old new : KeyState) : Type 0 where
 leaves_it : (evicts : Bool) (state : KeyState) → Leaves false evicts state state
 leaves_it evicts state = record { filled = λ put. absurd (cc); stood = λ _ _. refl; stays = λ _ full. full }
 
-leaves_one : (old new : KeyState) → is_filled_key new ≡ true → Leaves true false old new
-leaves_one old new full = record { filled = λ _. full; stood = λ none. absurd (cc); stays = λ _ _. full }
-
-leaves_none : (evicts : Bool) (old new : KeyState) → is_filled_key new ≡ false
-    → (evicts ≡ false → is_filled_key old ≡ false) → Leaves false evicts old new
-leaves_none evicts old new none before = record {
-  filled = λ put. absurd (cc);
-  stood = λ _ full. absurd (cc);
-  stays = λ kept full. absurd (let was = before kept in cc);
-}
-
-fill_leaves : (here : Bool) (n : ℕ) (new : List Row)
-    → Leaves (is_done (if here then reply.Done else reply.Stale))
-    (is_evicted (if here then reply.Done else reply.Stale)) (Asked n) (if here then Rows n new else Asked n)
-fill_leaves true n new = leaves_one (Asked n) (Rows n new) refl
-fill_leaves false n new = leaves_it false (Asked n)
-
-cancel_leaves : (below : Bool) (n : ℕ)
-    → Leaves (is_done (if below then reply.Cancelled else reply.Worn))
-    (is_evicted (if below then reply.Cancelled else reply.Worn)) (Asked n) (if below then Hole (n + 1) else Asked n)
-cancel_leaves true n = leaves_none false (Asked n) (Hole (n + 1)) refl (λ _. refl)
-cancel_leaves false n = leaves_it false (Asked n)
-
-update_leaves : (r : Result (List Row) ApplyFault) (n : ℕ) (old : List Row)
-    → Leaves (is_done (applied_reply r)) (is_evicted (applied_reply r)) (Rows n old) (Rows n (rows_or r old))
-update_leaves (Ok left) n old = leaves_one (Rows n old) (Rows n left) refl
-update_leaves (Err fault.NoRow) n old = leaves_it false (Rows n old)
-update_leaves (Err fault.TooMany) n old = leaves_it false (Rows n old)
-
 leaves : (bound : ℕ) (call : Call) (state : KeyState)
     → Leaves (is_done (reply_at bound call state)) (is_evicted (reply_at bound call state)) state
     (state_after bound call state)
-leaves bound (Find k) (Rows n old) = leaves_it false (Rows n old)
-leaves bound (Ask k) (Hole n) = leaves_none false (Hole n) (Asked n) refl (λ _. refl)
-leaves bound (Fill k number new) (Asked n) = fill_leaves (n == number) n new
-leaves bound (Update k batch) (Rows n old) = update_leaves (applied bound old batch) n old
-leaves bound (Replace k new) (Rows n old) = leaves_one (Rows n old) (Rows n new) refl
-leaves bound (Evict k) (Rows n old) = leaves_none true (Rows n old) (Hole n) refl (λ none. absurd (cc))
-leaves bound (Cancel k) (Asked n) = cancel_leaves _ n
-leaves bound call state = leaves_it _ state
+leaves bound call state = grind arith
 
 -- a test of an entry, and of its key
 at_key : (b : Bool) (k key : ℕ) → (k ≡ key → (b && (k == key)) ≡ b) × (k ≢ key → (b && (k == key)) ≡ false)
@@ -88,23 +47,10 @@ step_leaves : (map : PartialMap) (key : ℕ) (e : Entry) → key < length map.st
 step_leaves map key e near legal =
     let own : ℕ = call_key e.call in
     let done = at_key (is_done e.reply) own key in let evicted = at_key (is_evicted e.reply) own key in
-    let Of : Bool × Bool × KeyState × KeyState → Type 0 = λ p. Leaves p.0 p.1 p.2 p.3 in
     ⊎_elim
-    (λ (same : own ≡ key). subst Of
-    (λ j. (
-      (ap is_done (sym legal) ∙ sym (done.0 same)) j,
-      (ap is_evicted (sym legal) ∙ sym (evicted.0 same)) j,
-      ap (state_of map) same j,
-      (sym (state_of-next_same map e.call (omega (arith, same))) ∙ ap (state_of (next map e.call)) same) j,
-    ))
-    (leaves map.bound e.call (state_of map own)))
-    (λ (other : own ≢ key). subst Of
-    (λ j. (
-      sym (done.1 other) j,
-      sym (evicted.1 other) j,
-      state_of map key,
-      sym (state_of-next_other map key e.call other) j,
-    ))
+    (λ (same : own ≡ key). rw (done.0 same, evicted.0 same, legal, ← same)
+    (rw (state_of-next_same map e.call (omega (arith, same))) (leaves map.bound e.call (state_of map own))))
+    (λ (other : own ≢ key). rw (done.1 other, evicted.1 other, state_of-next_other map key e.call other)
     (leaves_it false (state_of map key)))
     (cases_eq own key)
 
@@ -173,9 +119,7 @@ legal_later (e ∷ log) later map legal = legal_later log later (next map e.call
 
 -- what a find's answer tells of the state
 no_hole : (state : KeyState) (n : ℕ) → is_filled_key state ≡ true → find_reply state ≡ reply.Hole → 0 < n
-no_hole (Hole m) n filled is = absurd (cc)
-no_hole (Asked m) n filled is = absurd (cc)
-no_hole (Rows m rows) n filled is = absurd (cc)
+no_hole state n filled is = absurd (grind arith)
 
 pub rows_of : (state : KeyState) (rows : List Row) → find_reply state ≡ reply.Rows rows
     → (n : ℕ) × (state ≡ Rows n rows)
@@ -215,15 +159,9 @@ reads_no_older_lem old asking new note key steps found heard gains =
     let find = entry asking.number (Find key) found in
     let since = heard.hears.seen.rest ++ heard.seen.rest in
     let log = note.seen ++ (since ++ gains.between) in
-    let begun : asking.seen ++ gains.between ≡ log
-    = ap (λ (l : List Entry). l ++ gains.between)
-    (heard.seen.is ∙ ap (λ (l : List Entry). l ++ heard.seen.rest) heard.hears.seen.is
-    ∙ append_assoc note.seen heard.hears.seen.rest heard.seen.rest)
-    ∙ append_assoc note.seen since gains.between in
-    let grown : new.seen ≡ log ++ find ∷ [] = gains.seen ∙ ap (λ (l : List Entry). l ++ find ∷ []) begun in
-    let legal : IsLegal opening (log ++ find ∷ [])
-    = subst (λ (p : Table × List Entry). IsLegal (map_at_opening p.0) p.1)
-    (λ j. ((heard.table ∙ heard.hears.learns.table) j, grown j)) gains.legal in
+    let begun : asking.seen ++ gains.between ≡ log = rw (heard.seen.is, heard.hears.seen.is) (simp append_assoc) in
+    let grown = rw begun at gains.seen in
+    let legal = rw (heard.table, heard.hears.learns.table, grown) at gains.legal in
     let ends = (legal_goes_on_lem opening log find).1.1 legal in
     (log, record { rest = since ++ gains.between; is = refl }, grown, ends.0, ends.1)
 

@@ -5,6 +5,7 @@ use Rattle.atomic_table.specs.declared.shared.Seat.{Seat}
 use Rattle.nr_model.specs.declared.rows.Row.{Row}
 use Rattle.nr_model.specs.Rows.{IsRowSet}
 use Rattle.nr_model.specs.declared.calls.Call.TheVariants as model
+use Rattle.nr_model.specs.declared.calls.Reply.{Reply}
 use Rattle.nr_model.specs.declared.calls.Reply.TheVariants as reply
 use Rattle.nr_core.specs.Marks.{LoggedLoad, Marks, acted, with_loads}
 use Rattle.nr_core.specs.Puts.{put_number}
@@ -174,17 +175,26 @@ first_by says word = (if goes_on says word then name_number word ∷ [] else [])
 abbrev pub late_by : ℕ → ℕ → ℕ
 late_by says word = (if goes_on says word then 0 else 2)
 
--- so after that look
+-- what a find's answer stands for: its reply, the steps of its hold, and what the hand holds then
+abbrev pub reply_of : Bool → List Row → Reply
+reply_of true rows = reply.Rows rows
+reply_of false rows = reply.Hole
+
+abbrev pub TakesIn : Bool → Bool → List ℕ → ℕ → ℕ → Type 0
+TakesIn true by_word named says steps = HeldIn by_word named says steps
+TakesIn false by_word named says steps = HoleIn by_word named steps
+
+abbrev pub HoldsThen : Bool → ℕ → Handed → Handed → Type 0
+HoldsThen true key old new = HoldsKey key old new
+HoldsThen false key old new = HoldsNothing key old new
+
+-- so after that look, by its answer
 abbrev pub MovesByHand : ℕ → ℕ → Handed → Handed → Bool → Type 0
-MovesByHand key word old new true =
+MovesByHand key word old new answer =
     (steps : ℕ) × (named : List ℕ)
-    × HeldIn (finds_by_word old.reader) (first_by old.reader.says word ++ named) new.reader.says steps
-    × Gains (steps + late_by old.reader.says word - 1) (model.Find key) old.reader new.reader (reply.Rows new.rows)
-    × HoldsKey key old new × (new.reader.marks.loads ≡ old.reader.marks.loads ++ looks_at key named)
-MovesByHand key word old new false =
-    (steps : ℕ) × (named : List ℕ) × HoleIn (finds_by_word old.reader) (first_by old.reader.says word ++ named) steps
-    × Gains (steps + late_by old.reader.says word - 1) (model.Find key) old.reader new.reader reply.Hole
-    × HoldsNothing key old new × (new.reader.marks.loads ≡ old.reader.marks.loads ++ looks_at key named)
+    × TakesIn answer (finds_by_word old.reader) (first_by old.reader.says word ++ named) new.reader.says steps
+    × Gains (steps + late_by old.reader.says word - 1) (model.Find key) old.reader new.reader (reply_of answer new.rows)
+    × HoldsThen answer key old new × (new.reader.marks.loads ≡ old.reader.marks.loads ++ looks_at key named)
 
 -- whether a hand that keeps its hold, and whose reader's word says that, looks at the key before it lets anything go:
 -- it holds a set of the key, or another one by the word

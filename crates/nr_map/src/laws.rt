@@ -23,6 +23,7 @@ pub fn theorem<R: RowRoom>()
 
 /// Of a map whose readers have no words, finds take the steps of the counted way: 2n + 3 for n rows, and
 /// 1 for a hole.
+#[tactic(auto, using(crate::proofs::Pinning::finds_by_counts_lem))]
 pub fn finds_by_counts()
     ensures { FindsByCounts }
 {}
@@ -35,28 +36,33 @@ pub fn calls_stay()
 /// After one round of gathers over all readers, and before another, with no calls in between, the
 /// writer's history has exactly the readers' calls. The second round shows it: each reader then
 /// sees what the writer had.
+#[tactic(auto, using(crate::proofs::Gathered::rounds_tell_all_lem))]
 pub fn rounds_tell_all()
     ensures { RoundsTellAll }
 {}
 
 /// Such a history's entries are the callers', however they are counted.
+#[tactic(auto, using(crate::proofs::Gathered::entries_are_callers_lem))]
 pub fn entries_are_callers()
     ensures { EntriesAreCallers }
 {}
 
 /// All requests of a key that were answered `Send` are its fills and its cancels, and one more where
 /// it is asked.
+#[tactic(auto, using(crate::proofs::Gathered::sends_of_all_lem))]
 pub fn sends_of_all()
     ensures { SendsOfAll }
 {}
 
 /// So over all keys the requests that were answered `Send` are the fills that were done and the
 /// requests that were cancelled, and one more for each key that is asked.
+#[tactic(auto, using(crate::proofs::AllKeys::sends_of_all_keys_lem))]
 pub fn sends_of_all_keys()
     ensures { SendsOfAllKeys }
 {}
 
 /// Of two histories each of which begins with the other, both are the same.
+#[tactic(auto, using(crate::proofs::AllKeys::beginnings_meet_lem))]
 pub fn beginnings_meet()
     ensures { BeginningsMeet }
 {}
@@ -111,6 +117,7 @@ pub fn counts_at_no_slot()
 
 /// A find that comes after a put of its key, in any legal history, has the rows of that put or of a
 /// later one, and is a hole only where the key was evicted since.
+#[tactic(auto, using(crate::proofs::Written::finds_written_lem))]
 pub fn finds_written()
     ensures { FindsWritten }
 {}
@@ -207,6 +214,7 @@ pub fn nobody_holds_it()
 
 /// In the history that a token has seen, each filled key has at most as many rows as a key of its
 /// map may have, in ascending order: no fill brings more, and no update leaves more.
+#[tactic(auto, using(crate::proofs::RowBounds::rows_fit_lem))]
 pub fn rows_fit_the_map()
     ensures { RowsFitTheMap }
 {

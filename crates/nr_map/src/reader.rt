@@ -70,6 +70,7 @@ impl ReaderMap {
     /// its word. Where the key names another slot by then it announces and confirms once more, 2n + 7,
     /// and after that it clears its word and finds by the counts, 2n + 9. So it takes 1, 4, 6 or 7 for
     /// a hole.
+    #[tactic(auto, using(crate::proofs::SetRooms::finds_set, crate::proofs::SetRooms::finds_row_set))]
     pub fn find(&self, reader: &mut Reader, key: u32, rows: &mut RowSet) -> Found
         requires own { reader.old.table ≡ self.now }
         requires key { key < self.now.shape.keys }

@@ -17,6 +17,7 @@ impl ReaderMap {
 
     /// A find of the writer's own: writes the key's rows into the caller's set, which stays as it
     /// is where the key is a hole. Takes 1 step for a hole, and 2n + 2 for n rows.
+    #[tactic(auto, using(crate::proofs::SetRooms::looks_set, crate::proofs::SetRooms::looks_row_set))]
     pub fn look(&self, writer: &mut Writer, key: u32, rows: &mut RowSet) -> Found
         requires own { writer.old.table ≡ self.now }
         requires key { key < self.now.shape.keys }

@@ -11,18 +11,16 @@ loop-place-init c =
     let cells = c.args.cells.now in
     let count : ℕ = c.min-count.result in
     let none = copied_none from first cells (min 0 count) (omega arith) in
-    let one
-    = copied_on from first cells (min 0 count) (min 1 count) none c.copy_where.ensures.cells c.copy_where.ensures.room
-    (omega arith) c.copy_where.ensures.reads in
-    let two
-    = copied_on from first cells (min 1 count) (min 2 count) one c.copy_where-2.ensures.cells
-    c.copy_where-2.ensures.room (omega arith) c.copy_where-2.ensures.reads in
+    let row_one = c.copy_where.ensures in
+    let one = copied_on from first cells (min 1 count) none row_one.cells row_one.room (omega arith) row_one.reads in
+    let row_two = c.copy_where-2.ensures in
+    let two = copied_on from first cells (min 2 count) one row_two.cells row_two.room (omega arith) row_two.reads in
+    let row_three = c.copy_where-3.ensures in
     let three
-    = copied_on from first cells (min 2 count) (min 3 count) two c.copy_where-3.ensures.cells
-    c.copy_where-3.ensures.room (omega arith) c.copy_where-3.ensures.reads in
+    = copied_on from first cells (min 3 count) two row_three.cells row_three.room (omega arith) row_three.reads in
+    let row_four = c.copy_where-4.ensures in
     let four
-    = copied_on from first cells (min 3 count) (min 4 count) three c.copy_where-4.ensures.cells
-    c.copy_where-4.ensures.room (omega arith) c.copy_where-4.ensures.reads in
+    = copied_on from first cells (min 4 count) three row_four.cells row_four.room (omega arith) row_four.reads in
     record { own = c.copy_where-4.ensures.own; copied = four }
 
 pub loop-place-preserved : goal.loop-place-preserved
@@ -32,7 +30,7 @@ loop-place-preserved c =
     let made = c.copy_where-in-loop-place in
     record {
       own = made.ensures.own;
-      copied = copied_on c.args.from c.args.self.now c.args.cells.now (min place count) (min (place + 1) count)
+      copied = copied_on c.args.from c.args.self.now c.args.cells.now (min (place + 1) count)
           c.loop-place.invariant.copied made.ensures.cells made.ensures.room (omega arith) made.ensures.reads;
     }
 

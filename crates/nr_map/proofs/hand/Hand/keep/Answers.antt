@@ -1,9 +1,7 @@
-use Rattle.std.proofs.Common.{ap, arith, refl, subst, sym, ◌∙◌, ◌≡◌, ◌≢◌, Some, Option}
+use Rattle.std.proofs.Common.{ap, arith, refl, subst, sym, ◌∙◌, ◌<◌, ◌≡◌, ◌≢◌, Some}
 use Rattle.nr_board.proofs.ReaderSeats.{names_held}
-use Rattle.nr_map.proofs.HandSteps.{asked_anew, looked_anew, looked_in_vain, loud_by_word, pinned_none}
-use Rattle.nr_map.proofs.HandSteps.{pinned_other, silent_by_count}
-use Rattle.nr_map.specs.Hands.{Handed, IsHand, KeepsByHand, handed, key_held}
-use Rattle.nr_map.specs.declared.hand.Kept.{Kept}
+use Rattle.nr_map.proofs.HandSteps.{asked_anew, looked_anew, looked_in_vain, pinned_none, pinned_other}
+use Rattle.nr_map.specs.Hands.{Handed, KeepsByHand, handed, key_held}
 use Rattle.nr_map.proofs.hand.Hand.keep.Goals as goal
 
 pub returns-then-kept-key-clause-keeps : goal.returns-then-kept-key-clause-keeps
@@ -14,13 +12,13 @@ returns-then-kept-key-clause-keeps c =
     let told = c.look_again-word.ensures in
     let slot = c.in-Some.kept.set.slot in let word = c.look_again-word.result in
     let key_is : key_held held ≡ Some c.args.key
-    = ap key_held c.in-Some.is ∙ ap Some (omega (arith, c.if-kept-key.true)) in
+    = rw c.in-Some.is (ap Some (omega (arith, c.if-kept-key.true))) in
     let gone = names_held slot word ∙ sym c.names.ensures ∙ c.if-names.false in
     let vain
-    = looked_in_vain c.args.key before after held told.role told.says slot word told.holds gone (told.other gone)
-    told.exact told.marks in
+    = looked_in_vain before after held told.role told.says slot word told.holds gone (told.other gone) told.exact
+    told.marks in
     subst (λ (h : Handed). KeepsByHand c.args.key h c.move_to.new.self c.move_to.result) c.self.view_is
-    (asked_anew c.args.key word (handed before held) (handed after held) c.move_to.new.self vain.0 key_is vain.1
+    (asked_anew word c.move_to.new.self vain.0 key_is vain.1
     c.move_to.result c.move_to.ensures.moves)
 
 pub returns-clause-keeps : goal.returns-clause-keeps
@@ -30,29 +28,24 @@ returns-clause-keeps c =
     let held = c.self.inside.held in
     let told = c.look_ahead-word.ensures in
     let kept = c.in-Some.kept in
-    let key_is : key_held held ≡ Some kept.key = ap key_held c.in-Some.is in
-    let pins = subst (λ (o : Option Kept). IsHand before c.self.inside.caller.own o) c.in-Some.is c.self.invariant in
-    let loud = loud_by_word c.self.inside.caller.own kept.set before pins (omega (arith, c.if-kept-eq0.false)) in
+    let key_is : key_held held ≡ Some kept.key = rw c.in-Some.is refl in
+    let pins = rw c.in-Some.is at c.self.invariant in
+    let loud : 0 < before.me.0.says = omega (arith, pins.holds.says, c.if-kept-eq0.false) in
     let apart : kept.key ≢ c.args.key = λ e. absurd (c.if-kept-key.false e) in
     subst (λ (h : Handed). KeepsByHand c.args.key h c.move_to-2.new.self c.move_to-2.result) c.self.view_is
-    (looked_anew c.args.key c.look_ahead-word.result kept.key (handed before held) (handed after held)
+    (looked_anew c.look_ahead-word.result (handed before held) (handed after held)
     c.move_to-2.new.self key_is apart loud told.step refl c.move_to-2.result c.move_to-2.ensures.moves)
 
 pub returns-in_default-clause-keeps : goal.returns-in_default-clause-keeps
 returns-in_default-clause-keeps c =
     pinned_none c.args.key c.args.self.now c.pin.new.self c.pin.result
-    (ap (λ (h : Handed). h.key) (sym c.self.view_is) ∙ ap key_held c.in_default.is) c.pin.ensures.pins
+    (rw (← c.self.view_is, c.in_default.is) refl) c.pin.ensures.pins
 
 pub returns-then-kept-eq0-clause-keeps : goal.returns-then-kept-eq0-clause-keeps
 returns-then-kept-eq0-clause-keeps c =
-    let seat = c.self.inside.caller.seat in
-    let own = c.self.inside.caller.own in
     let kept = c.in-Some.kept in
-    let now = c.args.self.now in
-    let pins = subst (λ (o : Option Kept). IsHand seat own o) c.in-Some.is c.self.invariant in
+    let pins = rw c.in-Some.is at c.self.invariant in
     let apart : kept.key ≢ c.args.key = λ e. absurd (c.if-kept-key.false e) in
-    pinned_other c.args.key kept.key now c.pin-then-kept-eq0.new.self c.pin-then-kept-eq0.result
-    (ap (λ (h : Handed). h.key) (sym c.self.view_is) ∙ ap key_held c.in-Some.is) apart
-    (ap (λ (h : Handed). h.reader.says) (sym c.self.view_is)
-    ∙ silent_by_count own kept.set seat pins c.if-kept-eq0.true)
-    c.pin-then-kept-eq0.ensures.pins
+    pinned_other c.args.key kept.key c.args.self.now c.pin-then-kept-eq0.new.self c.pin-then-kept-eq0.result
+    (rw (← c.self.view_is, c.in-Some.is) refl) apart
+    (rw (← c.self.view_is) (pins.holds.says ∙ c.if-kept-eq0.true)) c.pin-then-kept-eq0.ensures.pins

@@ -1,27 +1,45 @@
-use Rattle.std.proofs.Common.{ap, arith, subst, sym, ℕ, ◌≡◌}
+use Rattle.std.proofs.Common.{◌≡◌, ◌∙◌, ℕ, [], ◌∷◌, ap, arith, subst, sym}
+use Rattle.nr_core.proofs.Sums.{total-append}
 use Rattle.nr_core.specs.Roles.{retirements}
+use Rattle.nr_core.specs.SlotLists.{SlotLists}
+use Rattle.nr_core.specs.Sums.{only}
+use Rattle.nr_core.specs.declared.places.Retired.{Retired}
 use Rattle.nr_board.proofs.Flagging.{flags_retire}
-use Rattle.nr_board.specs.Callers.{Table, token}
+use Rattle.nr_board.specs.Callers.{Caller, Table, token}
 use Rattle.nr_board.specs.Flags.{IsFlagged}
-use Rattle.nr_board.specs.Views.{desk_of}
-use Rattle.nr_map.proofs.Evictions.{evicts_heard}
+use Rattle.nr_board.specs.WriterAnswers.{EvictsKey}
+use Rattle.nr_board.specs.declared.answers.Evict.{Evict}
+use Rattle.nr_board.specs.declared.answers.Evict.TheVariants as evict
 use Rattle.nr_map.proofs.reader_map.ReaderMap.evict.Goals as goal
+
+-- an eviction leaves what the writer heard, and retires slots alone
+evicts_heard : (key : ℕ) (old new : Caller) (answer : Evict) → EvictsKey key old new answer
+    → (new.table ≡ old.table) × (new.heard ≡ old.heard)
+    × ((slot : ℕ) → retirements slot new.retired ≡ 0 → retirements slot old.retired ≡ 0)
+evicts_heard key old new evict.Evicted evicts = let one = evicts.3 in (
+  evicts.0.table,
+  evicts.5,
+  λ slot none.
+      let both
+      = total-append (λ (entry : Retired). only slot entry.slot) old.retired
+      (record { slot = one.slot; arrivals = one.arrivals } ∷ []) in
+      omega (arith, ap (retirements slot) one.retires),
+)
+evicts_heard key old new evict.Nothing evicts = (
+  evicts.0.table,
+  evicts.1.2,
+  λ slot none. ap (λ (s : SlotLists). retirements slot s.retired) (sym evicts.1.0) ∙ none,
+)
 
 pub invariant_of-writer : goal.invariant_of-writer
 invariant_of-writer c =
     let before = c.writer.inside in
-    let seat = c.evict_key.new.seat in
-    let lists = c.evict_key.new.lists in
-    let told = evicts_heard c.args.key (token before.seat) (token seat) c.evict_key.result c.evict_key.ensures.evicts in
-    let retired : (token seat).retired ≡ lists.retired
-    = ap (λ r. (desk_of r).retired) c.evict_key.ensures.rests.writes.role in
-    let retired_before : (token before.seat).retired ≡ before.lists.retired
-    = ap (λ r. (desk_of r).retired) c.writer.invariant.0.writes.role in
-    let fewer : (slot : ℕ) → retirements slot lists.retired ≡ 0 → retirements slot before.lists.retired ≡ 0
-    = λ slot none. let now = ap (retirements slot) retired in let then = ap (retirements slot) retired_before in
-    let all = told.2 slot (omega arith) in omega arith in (
-      c.evict_key.ensures.rests,
-      subst (λ (t : Table). IsFlagged t lists.retired (token seat).heard before.flags) (sym told.0)
-          (flags_retire (token before.seat).table before.lists.retired lists.retired (token before.seat).heard
-          (token seat).heard before.flags c.writer.invariant.1 told.1 fewer),
+    let new = token c.evict_key.new.seat in
+    let rests = c.evict_key.ensures.rests in
+    let told = evicts_heard c.args.key (token before.seat) new c.evict_key.result c.evict_key.ensures.evicts in (
+      rests,
+      subst (λ (t : Table). IsFlagged t c.evict_key.new.lists.retired new.heard before.flags) (sym told.0)
+          (flags_retire _ before.lists.retired c.evict_key.new.lists.retired _ new.heard before.flags
+          c.writer.invariant.1 told.1
+          (λ slot. rw (rests.writes.role, c.writer.invariant.0.writes.role) at (told.2 slot))),
     )

@@ -1,7 +1,6 @@
-use Rattle.std.proofs.Common.{ℕ, ◌≡◌, ◌+◌, ◌-◌, ◌*◌, ◌<◌, ◌≤◌, ◌++◌, ◌∙◌, List, ap, arith, drop, length, min, refl}
-use Rattle.std.proofs.Common.{subst, sym, take}
+use Rattle.std.proofs.Common.{ℕ, ◌≡◌, ◌+◌, ◌-◌, ◌*◌, ◌<◌, ◌≤◌, ◌++◌, List, arith, drop, length, min, refl, subst, take}
 use Rattle.std.proofs.lemmas.Grind.{div_ceil_times}
-use Rattle.std.proofs.lemmas.List.{drop-drop, length-drop, length-take-le, take-append-drop}
+use Rattle.std.proofs.lemmas.List.{drop-drop, length-drop, length-take, take-append-drop}
 use Rattle.nr_map.specs.declared.wanted.Wanted.{Wanted}
 use Rattle.nr_map.specs.FindsEach.{FindsFrom}
 use Rattle.nr_map.proofs.FindsEach.{Begun, all_made}
@@ -11,20 +10,13 @@ use Rattle.nr_map.proofs.reader_map.ReaderMap.find_each.Goals as goal
 -- a part of a list from a place to an end, and what comes after it
 module _ {A : Type 0} (keys : List A) (begin end : ℕ) (low : begin ≤ end) (fits : end ≤ length keys) where
   after : drop (end - begin) (drop begin keys) ≡ drop end keys
-  after =
-      drop-drop (end - begin) begin keys
-      ∙ ap (λ (n : ℕ). drop n keys) (let whole : begin + (end - begin) ≡ end = omega (arith, low) in whole)
+  after = let whole : begin + (end - begin) ≡ end = omega (arith, low) in rw (drop-drop, whole) refl
 
   part_size : length (take (end - begin) (drop begin keys)) + begin ≡ end
-  part_size =
-      let part : length (take (end - begin) (drop begin keys)) ≡ end - begin
-      = length-take-le (end - begin) (drop begin keys) (omega (arith, length-drop begin keys, low, fits)) in
-      omega (arith, part, low)
+  part_size = simp (length-take, length-drop) (omega (arith, low, fits))
 
   part_whole : take (end - begin) (drop begin keys) ++ drop end keys ≡ drop begin keys
-  part_whole =
-      ap (λ (l : List A). take (end - begin) (drop begin keys) ++ l) (sym after)
-      ∙ take-append-drop (end - begin) (drop begin keys)
+  part_whole = rw (← after) (take-append-drop (end - begin) (drop begin keys))
 
 pub loop-group-preserved : goal.loop-group-preserved
 loop-group-preserved g c =
@@ -54,10 +46,7 @@ loop-group-preserved g c =
     record {
       own = c.find_group.ensures.own;
       grouped =
-          subst
-          (λ (p : ℕ × List (Wanted g.row.R.Denot)). Begun (FindsFrom shows) first wanted p.0 c.find_group.new.reader
-          (take begin keys ++ (found ++ p.1)))
-          (λ j. (there j, sym (after keys begin end up fits) j)) more;
+          rw (← there, after keys begin end up fits) more;
     }
 
 pub returns-clause-finds : goal.returns-clause-finds
