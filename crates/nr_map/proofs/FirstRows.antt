@@ -1,8 +1,7 @@
 -- Rows that are put over the first ones of a list, one after another, and those that a hand holds.
-use Rattle.std.proofs.Common.{◌≡◌, ◌∙◌, ℕ, ◌+◌, ◌-◌, ◌*◌, ◌<◌, ◌≤◌, List, ◌++◌, length, take, drop, set, ap, refl}
-use Rattle.std.proofs.Common.{arith, get_or}
+use Rattle.std.proofs.lemmas.Grind.{common_steps}
+use Rattle.std.proofs.Common.{◌≡◌, ◌∙◌, ℕ, ◌+◌, ◌-◌, ◌*◌, ◌<◌, ◌≤◌, List, length, drop, set, ap, refl, arith, get_or}
 use Rattle.std.specs.Prelude.{Some, min, suc, true}
-use Rattle.std.proofs.lemmas.List.{length-append, length-drop, length-take-le, drop_min, take_min}
 use Rattle.nr_model.specs.declared.rows.Row.{Row}
 use Rattle.nr_model.proofs.RefillLemmas.{put_one}
 use Rattle.nr_board.proofs.Tokens.{rests_both, rests_none}
@@ -16,23 +15,12 @@ use Rattle.nr_map.proofs.Pinning.{reads_on}
 pub put_next : (rows before cells : List Row) (place : ℕ) (row : Row) → get_or rows place row ≡ row
     → place < length rows → place < length cells → ArePutOver rows before place cells
     → ArePutOver rows before (place + 1) (set cells place row)
-put_next rows before cells place row read within room is =
-    let long : length cells ≡ length (take place rows) + length (drop place before)
-    = ap (λ (l : List Row). length l) is ∙ length-append (take place rows) (drop place before) in
-    ap (λ (l : List Row). set l place row) is
-    ∙ put_one rows before place row read within
-    (omega (arith, room, long, length-take-le place rows (omega (arith, within)), length-drop place before))
+put_next rows before cells place row read within room is = grind (arith, common_steps, put_one)
 
 -- as many as there are, or as there is room for
 pub put_whole : (rows before cells : List Row) (put : ℕ) → put ≡ min (length before) (length rows)
     → ArePutOver rows before put cells → cells ≡ put_first rows before
-put_whole rows before cells put is over =
-    over
-    ∙ (λ j. (ap (λ (n : ℕ). take n rows) is ∙ take_min (length before) rows) j
-    ++ (ap (λ (n : ℕ). drop n before) (is ∙ min_either) ∙ drop_min (length rows) before) j)
-  where
-    min_either : min (length before) (length rows) ≡ min (length rows) (length before)
-    min_either = omega arith
+put_whole rows before cells put is over = grind (arith, common_steps)
 
 copies_both : (one two sum : ℕ) (first mid new : Handed) → sum ≡ one + two → CopiesHeld one first mid
     → CopiesHeld two mid new → CopiesHeld sum first new

@@ -1,10 +1,7 @@
 -- After rounds of gathers the writer's history is that of all callers.
-use Rattle.std.proofs.Common.{◌≡◌, ◌≢◌, ℕ, suc, ◌+◌, ◌<◌, ◌≤◌, Bool, ◌&&◌, cond, List, [], ◌∷◌, length, refl, sym}
-use Rattle.std.proofs.Common.{ap, ◌∙◌, arith, eq-eqb, ne_eqb, get_or, ⊎_elim}
+use Rattle.std.proofs.Common.{◌≡◌, ◌≢◌, ℕ, suc, ◌+◌, ◌<◌, ◌≤◌, Bool, ◌&&◌, cond, List, [], ◌∷◌, length, refl, sym, ap}
+use Rattle.std.proofs.Common.{◌∙◌, arith, eq-eqb, ne_eqb, get_or}
 use Rattle.std.specs.List.{count_by}
-use Rattle.std.proofs.lemmas.Bool.{cases_lt}
-use mathlib.Core.Logic.{dite}
-use native.Mathlib.Decide.{ℕ_discrete}
 use Rattle.nr_model.proofs.HistoryLemmas.{count_by-cons, sends_are_answered_lem}
 use Rattle.nr_model.specs.Histories.{Entry, asks, entries_of, cancels_key, fills_key, is_cancelled, is_done, is_send}
 use Rattle.nr_core.proofs.Sums.{below-change, below-first, below-zero}
@@ -31,10 +28,11 @@ entries_other entry log caller isnt = rw (ne_eqb entry.caller caller isnt) refl
 -- who has an entry is one of the callers
 within : (entry : Entry) (log : List Entry) (n : ℕ) → ((caller : ℕ) → n ≤ caller → entries_of (entry ∷ log) caller ≡ [])
     → entry.caller < n
-within entry log n none = ⊎_elim (λ (low : entry.caller < n). low)
-    (λ (beyond : n ≤ entry.caller).
-    absurd (cc (entries_own entry log entry.caller refl, none entry.caller beyond)))
-    (cases_lt entry.caller n)
+within entry log n none = grind (arith, none entry.caller)
+
+none_before : (entry : Entry) (log : List Entry) (caller : ℕ) → entries_of (entry ∷ log) caller ≡ []
+    → entries_of log caller ≡ []
+none_before entry log caller none = grind arith
 
 -- a history whose callers are below n is counted caller by caller
 by_callers : (test : Entry → Bool) (log : List Entry) (n : ℕ) → ((caller : ℕ) → n ≤ caller → entries_of log caller ≡ [])
@@ -44,9 +42,7 @@ by_callers test (entry ∷ log) n none =
     let f : ℕ → ℕ = λ caller. count_by test (entries_of log caller) in
     let g : ℕ → ℕ = λ caller. count_by test (entries_of (entry ∷ log) caller) in
     let none_more : (caller : ℕ) → n ≤ caller → entries_of log caller ≡ []
-    = λ caller beyond. dite (ℕ_discrete entry.caller caller)
-    (λ is. absurd (cc (entries_own entry log caller is, none caller beyond)))
-    (λ isnt. sym (entries_other entry log caller isnt) ∙ none caller beyond) in
+    = λ caller beyond. none_before entry log caller (none caller beyond) in
     let inside = within entry log n none in
     let before = by_callers test log n none_more in
     let change

@@ -1,12 +1,12 @@
 -- A caller that lets no set be overwritten, call by call: each slot's set has the rows of its put number, and so has
 -- each that came out.
+use Rattle.std.proofs.lemmas.Grind.{common_steps, get_or-set_at}
 use Rattle.std.proofs.Common.{Bool, List, [], ap, append-nil, arith, cond, false, get_or, get_or-set_other, inr, length}
 use Rattle.std.proofs.Common.{length-append, length-set, map, refl, subst, suc, sym, true, zero, ℕ, ⊎_elim, ◌++◌, ◌+◌}
 use Rattle.std.proofs.Common.{◌<◌, ◌∙◌, ◌∷◌, ◌≡◌, ◌≢◌, ◌*◌}
 use Rattle.std.proofs.lemmas.Bool.{le-ltb, lt-ltb}
-use Rattle.std.proofs.lemmas.List.{get_or_append_left, length-replicate, map-append}
+use Rattle.std.proofs.lemmas.List.{length-replicate, map-append}
 use Rattle.std.proofs.lemmas.List.Elements.{All-append, All-head, All-nil, All-push, All-tail, All-weaker}
-use Rattle.std.proofs.lemmas.Grind.{get_or-set_at}
 use Rattle.std.proofs.Math.Seq.{get_or-append_seam}
 use Rattle.std.specs.List.{All}
 use Rattle.std.specs.Prelude.{nat_lt}
@@ -65,11 +65,7 @@ record Books (writer : Caller) (put : List (List Row)) (given : List Given) : Ty
 -- one set more
 more_rows : (put : List (List Row)) (rows : List Row) (one : Given) → HasItsRows put one
     → HasItsRows (put ++ rows ∷ []) one
-more_rows put rows one has =
-    let low = has.0 in (
-      omega (arith, length-append put (rows ∷ [])),
-      has.1 ∙ sym (get_or_append_left put (rows ∷ []) [] one.number has.0),
-    )
+more_rows put rows one has = grind (arith, common_steps)
 
 -- the set of a slot has its rows
 stands_so : (writer : Caller) (put : List (List Row)) (given : List Given) (slot : ℕ) → Books writer put given

@@ -37,10 +37,7 @@ use Rattle.nr_map.specs.Hands.{steps_to_depart}
 -- a hold takes a step at least
 some_takes : (answer by_word : Bool) (named : List ℕ) (says steps : ℕ) → TakesIn answer by_word named says steps
     → 0 < steps
-some_takes true false named says steps takes = omega (arith, takes.2)
-some_takes true true named says steps takes = omega (arith, takes)
-some_takes false false named says steps takes = omega (arith, takes.1)
-some_takes false true named says steps takes = omega (arith, takes)
+some_takes answer by_word named says steps takes = grind arith
 
 -- a find by a hand, by its answer: the looks at the key that named those came before
 record Finds (answer : Bool) (before : List ℕ) (more key : ℕ) (old new : Handed) : Type 0 where
@@ -84,8 +81,7 @@ module _ (key : ℕ) (old new : Handed) where
 loads_over : (held : Option ℕ) (marks : Marks) (loads more : List LoggedLoad) (put : ℕ)
     → acted (with_loads (departed held (with_loads marks loads)) more) put
     ≡ acted (with_loads (departed held marks) more) put
-loads_over None marks loads more put = refl
-loads_over (Some key) marks loads more put = refl
+loads_over held marks loads more put = grind arith
 
 -- whether the hand looks before it lets anything go
 looks_own : (key : ℕ) (held : Option ℕ) (says : ℕ) → held ≡ Some key → looks_first key held says ≡ true
@@ -147,11 +143,7 @@ module _ (key word : ℕ) (old asked new : Handed) (looks : looks_first key old.
     found goes is = record {
       steps = moves.0;
       named = cond goes (name_number word ∷ []) [] ++ moves.1;
-      takes =
-          subst
-          (λ (p : Bool × Bool). TakesIn answer p.0 (cond {A = List ℕ} p.1 (name_number word ∷ []) [] ++ moves.1)
-          new.reader.says moves.0)
-          (λ j. (same_words j, is j)) moves.2;
+      takes = rw (← same_words, ← is) moves.2;
       looks =
           loads_on moves.1 moves.5
           ∙ ap (λ (named : List ℕ). old.reader.marks.loads ++ looks_at key named) (sym (first_look goes));

@@ -1,30 +1,28 @@
 -- The sets that stand in slots and those that were let go, call by call: a call that puts a set lets go of the one that
 -- its slot had, and a reap of the one that it gives out.
 use Rattle.std.proofs.Common.{Bool, List, [], ap, arith, cond, false, get_or, get_or-set_other, get_or-set_same, inl}
-use Rattle.std.proofs.Common.{inr, length, length-set, nat_eq, refl, set, subst, suc, sym, take, true, zero, ℕ, ⊎_elim}
-use Rattle.std.proofs.Common.{◌++◌, ◌+◌, ◌<◌, ◌∙◌, ◌∷◌, ◌≡◌, ◌≤◌, ◌≢◌, ◌⊎◌}
+use Rattle.std.proofs.Common.{inr, length, length-set, refl, set, subst, suc, sym, take, true, zero, ℕ, ⊎_elim, ◌++◌}
+use Rattle.std.proofs.Common.{◌+◌, ◌<◌, ◌∙◌, ◌∷◌, ◌≡◌, ◌≤◌, ◌≢◌, ◌⊎◌}
 use Rattle.std.specs.Prelude.{Some, nat_lt, replicate}
-use Rattle.std.proofs.lemmas.Bool.{eqb-false, le-ltb, lt-ltb}
+use Rattle.std.proofs.lemmas.Bool.{le-ltb, lt-ltb}
 use Rattle.std.proofs.lemmas.Grind.{get_or-set_at}
 use Rattle.std.proofs.lemmas.List.{get_or-replicate, get_or_past, length-replicate}
 use lib.ListN.{get_elem?}
 use mathlib.Core.Logic.{dite}
 use mathlib.Core.Option.{some, some-injective, some-ne-none}
 use native.Mathlib.Decide.{dec_le, ℕ_discrete}
-use Rattle.nr_core.proofs.Choices.{by_cases}
 use Rattle.nr_core.proofs.Sums.{at_remove, at_snoc, below-change, below-same, below-term, only-other, only-same}
 use Rattle.nr_core.proofs.Sums.{total-append}
 use Rattle.nr_core.specs.Sums.{below, only}
 use Rattle.nr_core.specs.declared.places.Retired.{Retired}
 use Rattle.nr_core.specs.declared.shape.Shape.{Shape}
 use Rattle.nr_model.specs.Histories.{Entry, IsLegal, entries_of, is_done}
-use Rattle.nr_model.specs.Maps.{PartialMap, ask_reply, call_key, find_reply, next, reply_to, state_of}
+use Rattle.nr_model.specs.Maps.{PartialMap, call_key, next, reply_to}
 use Rattle.nr_model.specs.Strays.{count_of_put}
 use Rattle.nr_model.specs.declared.calls.Call.{Call}
 use Rattle.nr_model.specs.declared.calls.Call.TheVariants as model
 use Rattle.nr_model.specs.declared.calls.Reply.TheVariants as reply
 use Rattle.nr_model.specs.declared.rows.Row.{Row}
-use Rattle.nr_model.specs.declared.states.KeyState.TheVariants.{Hole}
 use Rattle.nr_core.specs.Story.{entry}
 use Rattle.nr_core.specs.Marks.{Marks}
 use Rattle.nr_core.specs.Pasts.{Living}
@@ -42,27 +40,18 @@ use Rattle.nr_map.proofs.Standing.{stands_there}
 -- THE WRITER'S PUTS ARE ITS OWN ENTRIES'
 
 reading_puts_none : (map : PartialMap) (call : Call) → is_reading call ≡ true → is_done (reply_to map call) ≡ false
-reading_puts_none map (model.Find key) reads =
-    elim (state_of map key) as (λ s. is_done (find_reply s) ≡ false) [ Hole n ↦ refl | _ ↦ refl ]
-reading_puts_none map (model.Ask key) reads =
-    elim (state_of map key) as (λ s. is_done (ask_reply s) ≡ false) [ Hole n ↦ refl | _ ↦ refl ]
-reading_puts_none map call reads = absurd (cc)
+reading_puts_none map call reads = grind arith
+
+own_step : (shape : Shape) (map : PartialMap) (e : Entry) (log : List Entry) → IsLegal map (e ∷ log)
+    → AreCallers shape (e ∷ log) → put_count log ≡ put_count (entries_of log 0)
+    → put_count (e ∷ log) ≡ put_count (entries_of (e ∷ log) 0)
+own_step shape map e log legal callers rest = grind (arith, reading_puts_none map e.call)
 
 own_puts : (shape : Shape) (map : PartialMap) (log : List Entry) → IsLegal map log → AreCallers shape log
     → put_count log ≡ put_count (entries_of log 0)
 own_puts shape map [] legal callers = refl
 own_puts shape map (e ∷ log) legal callers =
-    let rest = own_puts shape (next map e.call) log legal.1 callers.1 in
-    by_cases
-    (λ (b : Bool). put_count (e ∷ log)
-    ≡ put_count (cond {A = List Entry} b (e ∷ entries_of log 0) (entries_of log 0)))
-    (nat_eq e.caller 0)
-    (λ yes. omega (arith, rest))
-    (λ no.
-    let quiet : is_done e.reply ≡ false
-    = ⊎_elim (λ writes. absurd (eqb-false e.caller 0 no writes.0))
-    (λ reads. ap is_done legal.0 ∙ reading_puts_none map e.call reads.1) callers.0.1 in
-    let none : puts_set e ≡ 0 = ap (λ (b : Bool). cond {A = ℕ} b 1 0) quiet in omega (arith, rest))
+    own_step shape map e log legal callers (own_puts shape (next map e.call) log legal.1 callers.1)
 
 some_inside : (l : List ℕ) (i x : ℕ) → get_or l i 0 ≡ suc x → i < length l
 some_inside l i x is = grind (arith, get_or_past)

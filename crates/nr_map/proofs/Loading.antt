@@ -1,9 +1,9 @@
 -- Loads ahead, as loops make them one by one.
+use Rattle.std.proofs.lemmas.Grind.{common_steps, flat_map-append}
 use Rattle.std.proofs.Common.{◌≡◌, ℕ, zero, suc, ◌+◌, ◌*◌, min, List, [], ◌∷◌, ◌++◌, length, refl, sym, ap, ◌∙◌, arith}
 use Rattle.std.proofs.Common.{append_assoc, append-nil}
 use Rattle.std.specs.List.{flat_map, zip}
 use Rattle.std.proofs.lemmas.List.{length-append, length-map, map-append}
-use Rattle.std.proofs.lemmas.Grind.{flat_map-append}
 use Rattle.std.proofs.lemmas.Slice.Zip.{length-zip}
 use Rattle.nr_words.specs.declared.layout.Layout.{Layout}
 use Rattle.nr_board.specs.Callers.{Caller}
@@ -62,12 +62,7 @@ keys_more keys words key word a b c so made = record {
 
 pub keys_count : (keys words : List ℕ) (a b : Caller) → (so : LoadsKeys keys words a b)
     → (length words ≡ length keys) × (b.steps ≡ a.steps + length keys)
-keys_count keys words a b so =
-    let here = sym (length-map so.loads.loads (λ (load : Loaded). load.place)) ∙ ap length so.loads.at in
-    let there = sym (length-map so.loads.loads (λ (load : Loaded). load.word)) ∙ ap length so.words_are in (
-      sym there ∙ here,
-      ap (λ (caller : Caller). caller.steps) so.loads.made ∙ ap (λ (n : ℕ). a.steps + n) here,
-    )
+keys_count keys words a b so = grind (arith, common_steps)
 
 -- SETS
 module _ (sizes : Layout) where

@@ -57,6 +57,4 @@ count_standing number (y ∷ l) (false ∷ flags) (suc n) fits =
 -- what a slot had, if it was taken
 pub count_had : (number x : ℕ) (taken reaped : Bool)
     → count_of_put (cond taken (cond reaped [] (x ∷ [])) []) number ≡ cond taken (cond reaped 0 (only number x)) 0
-count_had number x false reaped = refl
-count_had number x true true = refl
-count_had number x true false = omega (arith, count_cons number x [])
+count_had number x taken reaped = grind (arith, count_cons)

@@ -2,7 +2,7 @@
 use Rattle.std.proofs.Common.{◌≡◌, ◌≢◌, ℕ, ◌<◌, Bool, true, false, ◌&&◌, ◌==◌, List, [], ◌∷◌, ◌++◌, length, ⊎_elim, inl}
 use Rattle.std.proofs.Common.{inr, ◌⊎◌, ap, subst, refl, sym, ◌∙◌, arith, append_assoc}
 use Rattle.std.specs.List.{count_by}
-use Rattle.std.proofs.lemmas.Bool.{cases_eq, cases_Bool, cases_lt, eq-eqb, ne_eqb}
+use Rattle.std.proofs.lemmas.Bool.{cases_eq, cases_Bool, cases_lt}
 use Rattle.std.proofs.lemmas.List.{length-set, length-replicate}
 use Rattle.nr_core.proofs.Histories.{length-after}
 use Rattle.nr_core.specs.Story.{entry}
@@ -14,7 +14,7 @@ use Rattle.nr_model.specs.declared.calls.Call.{Call}
 use Rattle.nr_model.specs.declared.calls.Call.TheVariants.{Find}
 use Rattle.nr_model.specs.declared.calls.Reply.TheVariants as reply
 use Rattle.nr_model.specs.declared.states.KeyState.{KeyState}
-use Rattle.nr_model.specs.declared.states.KeyState.TheVariants.{Hole, Asked, Rows}
+use Rattle.nr_model.specs.declared.states.KeyState.TheVariants.{Hole, Rows}
 use Rattle.nr_model.specs.Maps.{PartialMap, call_key, find_reply, is_filled_key, next, reply_at, reply_to, state_after}
 use Rattle.nr_model.specs.Maps.{state_of}
 use Rattle.nr_model.specs.Histories.{Entry, IsLegal, after, is_done}
@@ -38,8 +38,7 @@ leaves bound call state = grind arith
 
 -- a test of an entry, and of its key
 at_key : (b : Bool) (k key : ℕ) → (k ≡ key → (b && (k == key)) ≡ b) × (k ≢ key → (b && (k == key)) ≡ false)
-at_key true k key = (eq-eqb k key, ne_eqb k key)
-at_key false k key = ((λ _. refl), λ _. refl)
+at_key b k key = grind arith
 
 -- what one entry leaves of a key
 step_leaves : (map : PartialMap) (key : ℕ) (e : Entry) → key < length map.states → e.reply ≡ reply_to map e.call
@@ -123,9 +122,7 @@ no_hole state n filled is = absurd (grind arith)
 
 pub rows_of : (state : KeyState) (rows : List Row) → find_reply state ≡ reply.Rows rows
     → (n : ℕ) × (state ≡ Rows n rows)
-rows_of (Hole m) rows is = absurd (cc)
-rows_of (Asked m) rows is = absurd (cc)
-rows_of (Rows m old) rows is = (m, cc)
+rows_of state rows is = grind arith
 
 pub finds_written_lem : FindsWritten
 finds_written_lem map before later put key caller found near puts_it legal =
