@@ -2,12 +2,8 @@
 --     Token          the row of what a handle leads to, with its laws
 --     boxed, at      a box of it in the C library's memory, and what a call passes for its type
 --     Row, Apart     the handle and its parts as rows
-use mir.Syntax.{Args, a_type, impl, tnil, dnil}
-use mathlib.Core.List.{[], ◌∷◌}
-use denote.RattleType.{RattleType}
-use denote.Param.{layouts, param}
+use Rattle.nr_c.proofs.Walks.{Args, Bx, RattleType, [], a_type, dnil, impl, layouts, param, tnil, ◌∷◌}
 use denote.Param.Laws.{Laws}
-use Rattle.std_alloc.proofs.BoxSteps.Form.{Bx}
 use Rattle.std_heap.specs.contracts.Global as Heap
 use Rattle.std_heap.specs.contracts.GlobalAllocator.TheImpl.{ghosts, dict}
 use Rattle.std_heap.proofs.Global.TheLaws as heap

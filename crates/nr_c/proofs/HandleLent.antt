@@ -2,41 +2,18 @@
 -- `Logic`.
 --     function       the code, at what stands behind its references
 --     there, back    what a handle owns in memory the `Handle` owns that it is lent as, and back
-use mathlib.Core.Path.{◌≡◌, ◌∙◌, ap, refl, subst}
-use Prim.Native.Nat.{ℕ}
-use mathlib.Core.List.{[], ◌∷◌}
-use seplogic.Ra.Ura.{Ura}
-use mir.Syntax.{Fn, Ty, named, erased, mut, ty_ptr, ty_ref, local, value_local, place, deref, copy, rv_opd, addr_of}
-use mir.Syntax.{seq, assign, block, return}
-use mir.Val.{Val, vptr}
-use base.Logic.{SProp, ent, sep, emp, id⊢, via, fst∗}
-use base.Fml.{Fml, Lft, GName, Share, ftrue, flft}
-use prog.Model.{Model}
-use prog.Routine.{Callee}
-use prog.Wp.{Env, Calls, Closed, Loops, WpFn, Tables}
-use types.Logic.{Logic, sem}
+use Rattle.nr_c.proofs.Walks.{Callee, Calls, Clauses, Closed, Ended, Env, Fml, Fn, GName, Goes-spent_ref, Lft, Logic}
+use Rattle.nr_c.proofs.Walks.{Loops, Meets, Model, MutRef, Part, RattleType, Running, SProp, Share, Stays, Tables}
+use Rattle.nr_c.proofs.Walks.{Triple, Ty, Ura, Val, WpFn, WpFn-mono, [], !, addr, addr_of, after, alloc_all, ap}
+use Rattle.nr_c.proofs.Walks.{assign, at_ret, await, block, blocks, by, closing, copy, deref, done, drop, emp, ends_at}
+use Rattle.nr_c.proofs.Walks.{ent, enter, entered, env, erased, exec, fact, first, fjoin, flft, follows, frame}
+use Rattle.nr_c.proofs.Walks.{free_all, fsplit, fsplit3, fst∗, ftrue, get, group, id⊢, join, keep, later, lends_Part}
+use Rattle.nr_c.proofs.Walks.{local, look_at, mem, move, mut, mut_Tells, mut_ref_to, mut_vals, named, no, nothing}
+use Rattle.nr_c.proofs.Walks.{of_opd, on_entry, owns, pass_all, pick, place, plain, qed, raw, refl, return, returns}
+use Rattle.nr_c.proofs.Walks.{rv_opd, says, sem, sep, seq, sets, sets_last, some, split, stay_dropped, stop, subst}
+use Rattle.nr_c.proofs.Walks.{suffices, tables, tables_of, through, triple_of, ty_ptr, ty_ref, use1, value_local, via}
+use Rattle.nr_c.proofs.Walks.{vptr, walk_Meets, walk_of, walked, ‵, ℕ, ◌$◌, ◌∙◌, ◌∵◌, ◌∷◌, ◌≡◌, ◌⊛◌}
 use types.Mut.{open_ref}
-use contract.Monad.{fact}
-use contract.Running.{Running, tables, tables_of}
-use sound.WpLaws.{WpFn-mono}
-use types.Kit.{‵, ◌⊛◌, some, at_ret, ◌$◌, ◌∵◌, !, qed, by, move, keep, use1, drop, split, join, pick, fsplit}
-use types.Kit.{fsplit3, fjoin, suffices, frame, done, raw, later, await, group}
-use types.Run.{stop, of_opd, first, blocks, exec, returns, enter, addr}
-use types.ByLocal.{alloc_all, pass_all, free_all, look_at, get, through, sets, env, sets_last}
-use denote.RattleType.{RattleType, owns}
-use denote.Memory.{mem}
-use denote.Ref.{MutRef, mut_vals, mut_Tells}
-use denote.Signature.{plain, mut_ref_to}
-use denote.Steps.{nothing}
-use denote.Triple.Clauses.{Clauses, Ended, closing}
-use denote.Triple.Entry.{on_entry}
-use denote.Triple.Spec.{Meets, triple_of}
-use denote.Triple.Statement.{Triple}
-use denote.Triple.Table.{entered}
-use denote.Triple.Walked.{says, Stays, stay_dropped, walk_of, ends_at, walked, walk_Meets, Goes-spent_ref}
-use denote.Exit.{no}
-use denote.Follow.{follows, Part, lends_Part}
-use Rattle.std.proofs.VecSteps.Shapes.{after}
 use Rattle.nr_c.specs.HandleFollows.{Named}
 use Rattle.nr_c.specs.contracts.handle.Handle.{the_row}
 use Rattle.nr_c.specs.declared.handle.Handle.{Handle}

@@ -3,26 +3,11 @@
 --     asks_and_gives  what it asks of the one, and says of both
 --     taken           it meets that where its walk does
 --     at_token        and it meets its statement, which carries the lifetime of the token's type
-use mathlib.Core.List.{[], ◌∷◌, ◌++◌}
-use seplogic.Ra.Ura.{Ura}
-use mir.Syntax.{Fn}
-use base.Logic.{SProp, ent}
-use prog.Model.{Model}
-use prog.Routine.{Callee}
-use prog.Wp.{Closed, WpFn, Tables}
-use types.Logic.{Logic}
-use contract.Monad.{fact}
-use contract.Running.{Running, tables, tables_of}
-use sound.WpLaws.{WpFn-mono}
-use denote.Exit.{Kept}
-use denote.RattleType.{RattleType}
-use denote.Signature.{plain}
+use Rattle.nr_c.proofs.Walks.{Callee, Clauses, Closed, Ended, Fn, Goes-dropped, Kept, Logic, Meets, Model, RattleType}
+use Rattle.nr_c.proofs.Walks.{Running, SProp, Silent, Stays, Tables, Triple, Ura, WpFn, WpFn-mono, [], closing, ent}
+use Rattle.nr_c.proofs.Walks.{entered, fact, plain, run_framed, stay_dropped, tables, tables_of, triple_of, walk_Meets}
+use Rattle.nr_c.proofs.Walks.{walk_of, ◌++◌, ◌∷◌}
 use denote.Triple.Carry.{grown, spared}
-use denote.Triple.Clauses.{Clauses, Ended, closing}
-use denote.Triple.Spec.{Meets, triple_of}
-use denote.Triple.Statement.{Triple}
-use denote.Triple.Table.{entered, run_framed}
-use denote.Triple.Walked.{Stays, stay_dropped, walk_of, Silent, Goes-dropped, walk_Meets}
 
 module _ (From To : RattleType) (kept : Kept) where
   abbrev pub takes : Ended

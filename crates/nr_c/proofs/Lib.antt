@@ -1,3 +1,4 @@
+pub mod Walks
 pub mod HandleBox
 pub mod HandleMet
 pub mod HandleLent
@@ -9,6 +10,4 @@ pub mod LookedUp
 pub mod LedgerLemmas
 pub mod ClosingSteps
 pub mod LiveHandles
-pub mod RowsAllowed
 pub mod KeptUpqueries
-pub mod HandlesOpened

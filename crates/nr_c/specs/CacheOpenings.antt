@@ -9,9 +9,9 @@ use Rattle.nr_c.specs.declared.cache_side.CacheSide.{CacheSide}
 use Rattle.nr_c.specs.declared.id_reader_side.IdReaderSide.{IdReaderSide}
 use Rattle.nr_c.specs.Closings.{Closes, IsNewWatch}
 use Rattle.nr_c.specs.Endings.{Ends}
-use Rattle.nr_c.specs.Live.{CallOfTwo, OpensSide}
+use Rattle.nr_c.specs.Live.{BothLead, CallOfTwo, OpensSide}
 use Rattle.nr_c.specs.Numbers.{answer_no_reader}
-use Rattle.nr_c.specs.Spares.{KeepsSpare, LeadsTo, TakesLast}
+use Rattle.nr_c.specs.Spares.{KeepsSpare, TakesLast}
 
 abbrev pub cache_shape_of : NrCacheShape → StoreShape
 cache_shape_of shape =
@@ -43,7 +43,7 @@ KeepsCache =
 -- the reader's handle leads to the side of that reader, of the cache's map
 abbrev pub LeadsToCacheReader : List CacheSide → IdCaller → List IdReaderSide → Type 0
 LeadsToCacheReader before reader =
-    LeadsTo
+    BothLead
     (λ (held : CacheSide) (side : IdReaderSide). (side.map.value ≡ held.map.value)
     × (side.hand ≡ idle_by_id reader) × (side.watch.word ≡ held.watch.word) × IsNewWatch side.watch) before
 

@@ -1,6 +1,5 @@
 -- A cache as C calls it.
-use Rattle.std.specs.Prelude.{ℕ, ◌≡◌, Bool, if◌then◌else◌, List, [], ◌∷◌, Option, Some, None}
-use Rattle.nr_board.specs.declared.answers.Reaped.{Reaped}
+use Rattle.std.specs.Prelude.{ℕ, ◌≡◌, if◌then◌else◌, List, [], ◌∷◌, Option, Some, None}
 use Rattle.nr_cache.specs.declared.counts.Counts.{Counts}
 use Rattle.nr_cache.specs.declared.finds.FoundValue.{FoundValue}
 use Rattle.nr_cache.specs.declared.flights.Flight.{Flight}
@@ -24,7 +23,7 @@ use Rattle.nr_idmap.specs.IdHands.{IdHanded}
 use Rattle.nr_c.specs.declared.cache_flight.NrFlight.{NrFlight}
 use Rattle.nr_c.specs.declared.cache_looks.NrCacheCounts.{NrCacheCounts}
 use Rattle.nr_c.specs.declared.cache_side.CacheSide.{CacheSide}
-use Rattle.nr_c.specs.Codes.{reaped_code, reclaimed_code}
+use Rattle.nr_c.specs.Codes.{ByCode, reaped_code, reclaimed_code}
 use Rattle.nr_c.specs.IdLive.{WithId, WithNumber}
 use Rattle.nr_c.specs.Live.{Call, Turns, WhenLive}
 use Rattle.nr_c.specs.Numbers.{answer_bad_row, answer_done, answer_evicted, answer_full, answer_hole, answer_nothing}
@@ -53,14 +52,12 @@ value_told stood (Some found) = found
 value_told stood None = stood
 
 abbrev pub FindsValueByCode : ℕ → FoundValue → FoundValue → IdHanded → IdHanded → ℕ → Type 0
-FindsValueByCode id stood stands old new code =
-    (value : Option FoundValue) × (code ≡ found_value_code value) × FindsValue id old new value
-    × (stands ≡ value_told stood value)
+FindsValueByCode id stood stands old new =
+    ByCode found_value_code (λ value. FindsValue id old new value × (stands ≡ value_told stood value))
 
 abbrev pub LooksByValueCode : ℕ → FoundValue → FoundValue → StoreSeen → StoreSeen → ℕ → Type 0
-LooksByValueCode id stood stands old new code =
-    (value : Option FoundValue) × (code ≡ found_value_code value) × Looks id old new value
-    × (stands ≡ value_told stood value)
+LooksByValueCode id stood stands old new =
+    ByCode found_value_code (λ value. Looks id old new value × (stands ≡ value_told stood value))
 
 abbrev pub counts_of : Counts → NrCacheCounts
 counts_of counts =
@@ -88,9 +85,8 @@ begun_told stood (begun.Load flight) = flight_of flight
 begun_told stood begun.Alone = stood
 
 abbrev pub BeginsByCode : ℕ → ℕ → NrFlight → NrFlight → StoreSeen → StoreSeen → ℕ → Type 0
-BeginsByCode id mark stood stands old new code =
-    (answer : Begun) × (code ≡ begun_code answer) × BeginsFlight id mark old new answer
-    × (stands ≡ begun_told stood answer)
+BeginsByCode id mark stood stands old new =
+    ByCode begun_code (λ answer. BeginsFlight id mark old new answer × (stands ≡ begun_told stood answer))
 
 abbrev pub ended_code : Option Flight → ℕ
 ended_code (Some flight) = answer_done
@@ -101,24 +97,21 @@ flight_told stood (Some flight) = flight_of flight
 flight_told stood None = stood
 
 abbrev pub FailsByCode : ℕ → NrFlight → NrFlight → StoreSeen → StoreSeen → ℕ → Type 0
-FailsByCode number stood stands old new code =
-    (ended : Option Flight) × (code ≡ ended_code ended) × Fails number old new ended
-    × (stands ≡ flight_told stood ended)
+FailsByCode number stood stands old new =
+    ByCode ended_code (λ ended. Fails number old new ended × (stands ≡ flight_told stood ended))
 
 abbrev pub FailsOldestByCode : NrFlight → NrFlight → StoreSeen → StoreSeen → ℕ → Type 0
-FailsOldestByCode stood stands old new code =
-    (ended : Option Flight) × (code ≡ ended_code ended) × FailsOldest old new ended
-    × (stands ≡ flight_told stood ended)
+FailsOldestByCode stood stands old new =
+    ByCode ended_code (λ ended. FailsOldest old new ended × (stands ≡ flight_told stood ended))
 
 -- CHANGES OF THE BASE
 abbrev pub ChangesByCode : ℕ → StoreSeen → StoreSeen → ℕ → Type 0
-ChangesByCode id old new code =
-    (begun : Bool) × (code ≡ (if begun then answer_done else answer_full)) × ChangesId id old new begun
+ChangesByCode id old new = ByCode (λ begun. if begun then answer_done else answer_full) (ChangesId id old new)
 
 abbrev pub EndsChangeByCode : ℕ → StoreSeen → StoreSeen → ℕ → Type 0
-EndsChangeByCode id old new code =
-    (ended : Bool) × (code ≡ (if ended then answer_done else answer_nothing))
-    × EndsChange id old.underway new.underway ended × (new ≡ record old { underway = new.underway })
+EndsChangeByCode id old new =
+    ByCode (λ ended. if ended then answer_done else answer_nothing)
+    (λ ended. EndsChange id old.underway new.underway ended × (new ≡ record old { underway = new.underway }))
 
 -- VALUES
 abbrev pub landed_code : Landed → ℕ
@@ -126,14 +119,12 @@ landed_code (landed.Held given) = reclaimed_code given
 landed_code landed.Own = answer_own
 
 abbrev pub LandsByCode : ℕ → ℕ → ℕ → ℕ → ℕ → GivenValue → GivenValue → StoreSeen → StoreSeen → ℕ → Type 0
-LandsByCode number stamp value weight bound before after old new code =
-    (answer : Landed) × (code ≡ landed_code answer)
-    × Lands ShowsValue number stamp value weight bound old before new after answer
+LandsByCode number stamp value weight bound before after old new =
+    ByCode landed_code (Lands ShowsValue number stamp value weight bound old before new after)
 
 abbrev pub PutsByCode : ℕ → ℕ → ℕ → ℕ → ℕ → GivenValue → GivenValue → StoreSeen → StoreSeen → ℕ → Type 0
-PutsByCode id stamp value weight bound before after old new code =
-    (answer : Landed) × (code ≡ landed_code answer)
-    × Puts ShowsValue id stamp value weight bound old before new after answer
+PutsByCode id stamp value weight bound before after old new =
+    ByCode landed_code (Puts ShowsValue id stamp value weight bound old before new after)
 
 abbrev pub swapped_code : Swapped → ℕ
 swapped_code (swapped.Held given) = reclaimed_code given
@@ -142,21 +133,17 @@ swapped_code (swapped.Other found) = answer_other
 swapped_code swapped.Absent = answer_hole
 
 abbrev pub SwapsByCode : ℕ → ℕ → ℕ → ℕ → ℕ → ℕ → GivenValue → GivenValue → StoreSeen → StoreSeen → ℕ → Type 0
-SwapsByCode id was stamp value weight bound before after old new code =
-    (answer : Swapped) × (code ≡ swapped_code answer)
-    × Swaps ShowsValue id was stamp value weight bound old before new after answer
+SwapsByCode id was stamp value weight bound before after old new =
+    ByCode swapped_code (Swaps ShowsValue id was stamp value weight bound old before new after)
 
 abbrev pub InvalidatesByCode : ℕ → StoreSeen → StoreSeen → ℕ → Type 0
-InvalidatesByCode id old new code =
-    (had : Bool) × (code ≡ (if had then answer_evicted else answer_nothing)) × Invalidates id old new had
+InvalidatesByCode id old new = ByCode (λ had. if had then answer_evicted else answer_nothing) (Invalidates id old new)
 
 abbrev pub ReapsByCode : GivenValue → GivenValue → StoreSeen → StoreSeen → ℕ → Type 0
-ReapsByCode before after old new code =
-    (answer : Reaped) × (code ≡ reaped_code answer) × Reaps ShowsValue old before new after answer
+ReapsByCode before after old new = ByCode reaped_code (Reaps ShowsValue old before new after)
 
 abbrev pub EvictsValueByCode : ℕ → StoreSeen → StoreSeen → ℕ → Type 0
-EvictsValueByCode id old new code =
-    (had : Bool) × (code ≡ (if had then answer_evicted else answer_nothing)) × Evicts id old new had
+EvictsValueByCode id old new = ByCode (λ had. if had then answer_evicted else answer_nothing) (Evicts id old new)
 
 abbrev pub taken_code : Option GivenValue → ℕ
 taken_code (Some taken) = answer_evicted
@@ -168,9 +155,8 @@ taken_told stood (Some taken) = taken
 taken_told stood None = stood
 
 abbrev pub EvictsOneByCode : ℕ → GivenValue → GivenValue → StoreSeen → StoreSeen → ℕ → Type 0
-EvictsOneByCode bound stood stands old new code =
-    (taken : Option GivenValue) × (code ≡ taken_code taken) × EvictsOne bound old new taken
-    × (stands ≡ taken_told stood taken)
+EvictsOneByCode bound stood stands old new =
+    ByCode taken_code (λ taken. EvictsOne bound old new taken × (stands ≡ taken_told stood taken))
 
 abbrev pub InvalidatesAllByCode : StoreSeen → StoreSeen → ℕ → Type 0
 InvalidatesAllByCode old new code = (code ≡ answer_done) × InvalidatesAll old new

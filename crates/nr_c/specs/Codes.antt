@@ -1,5 +1,5 @@
 -- The number that stands for each answer.
-use Rattle.std.specs.Prelude.{ℕ, ◌==◌, if◌then◌else◌, Result, Ok, Err}
+use Rattle.std.specs.Prelude.{ℕ, ◌≡◌, ◌==◌, if◌then◌else◌, Result, Ok, Err}
 use Rattle.nr_c.specs.Numbers.{answer_already, answer_asked, answer_cancelled, answer_done, answer_dropped}
 use Rattle.nr_c.specs.Numbers.{answer_empty, answer_evicted, answer_filled, answer_full, answer_given, answer_held}
 use Rattle.nr_c.specs.Numbers.{answer_hole, answer_in_the_way, answer_no_row, answer_all_filled, answer_no_slot}
@@ -30,6 +30,10 @@ use Rattle.nr_trigger.specs.declared.faults.PostFault.{PostFault}
 use Rattle.nr_trigger.specs.declared.faults.PostFault.TheVariants as post
 use Rattle.nr_trigger.specs.declared.faults.TakeFault.{TakeFault}
 use Rattle.nr_trigger.specs.declared.faults.TakeFault.TheVariants as take
+
+-- a call tells its answer by a number, and this holds of the answer
+abbrev pub ByCode : {Answer : Type 0} → (Answer → ℕ) → (Answer → Type 0) → ℕ → Type 0
+ByCode {Answer = Answer} code_of holds code = (answer : Answer) × (code ≡ code_of answer) × holds answer
 
 abbrev pub found_code : Found → ℕ
 found_code found.Rows = answer_rows
@@ -68,17 +72,18 @@ abbrev pub reclaimed_code : Reclaimed → ℕ
 reclaimed_code reclaimed.Set = answer_given
 reclaimed_code reclaimed.Nothing = answer_done
 
+abbrev pub reclaiming_code : {Fault : Type 0} → (Result (Unit {0}) Fault → ℕ) → Result Reclaimed Fault → ℕ
+reclaiming_code code_of (Ok given) = reclaimed_code given
+reclaiming_code code_of (Err fault) = code_of (Err fault)
+
 abbrev pub fill_reclaiming_code : Result Reclaimed FillFault → ℕ
-fill_reclaiming_code (Ok given) = reclaimed_code given
-fill_reclaiming_code (Err fault) = fill_code (Err fault)
+fill_reclaiming_code = reclaiming_code fill_code
 
 abbrev pub update_reclaiming_code : Result Reclaimed UpdateFault → ℕ
-update_reclaiming_code (Ok given) = reclaimed_code given
-update_reclaiming_code (Err fault) = update_code (Err fault)
+update_reclaiming_code = reclaiming_code update_code
 
 abbrev pub replace_reclaiming_code : Result Reclaimed ReplaceFault → ℕ
-replace_reclaiming_code (Ok given) = reclaimed_code given
-replace_reclaiming_code (Err fault) = replace_code (Err fault)
+replace_reclaiming_code = reclaiming_code replace_code
 
 abbrev pub reaped_code : Reaped → ℕ
 reaped_code reaped.Set = answer_given

@@ -1,18 +1,19 @@
 -- What the calls of the writer by id say that help to choose whom to evict, by their codes.
-use Rattle.std.specs.Prelude.{ℕ, ◌≡◌, ◌⊎◌, Bool, if◌then◌else◌, Option, Some, None}
+use Rattle.std.specs.Prelude.{ℕ, ◌≡◌, ◌⊎◌, if◌then◌else◌, Option, Some, None}
 use Rattle.nr_idmap.specs.IdChoices.{ChoosesId, StaysButClerk, UsesId}
 use Rattle.nr_ids.specs.Groups.{group_of}
 use Rattle.nr_idmap.specs.Keepers.{Keeper}
 use Rattle.nr_c.specs.declared.id_writer_side.IdWriterSide.{IdWriterSide}
+use Rattle.nr_c.specs.Codes.{ByCode}
 use Rattle.nr_c.specs.IdLive.{OwesAll}
 use Rattle.nr_c.specs.Ledgers.{AreAllAsked}
 use Rattle.nr_c.specs.Numbers.{answer_all_asked, answer_done, answer_nothing}
 
 -- whether an id was found since
 abbrev pub UsesIdByCode : ℕ → Keeper → Keeper → ℕ → Type 0
-UsesIdByCode id old new code =
-    (used : Bool) × (code ≡ (if used then answer_done else answer_nothing)) × UsesId id old.clerk new.clerk used
-    × StaysButClerk old new
+UsesIdByCode id old new =
+    ByCode (λ used. if used then answer_done else answer_nothing)
+    (λ used. UsesId id old.clerk new.clerk used × StaysButClerk old new)
 
 abbrev pub chosen_code : Option ℕ → ℕ
 chosen_code None = answer_nothing
@@ -25,9 +26,9 @@ chosen_or told (Some id) = id
 
 -- which id of another's group to evict
 abbrev pub ChoosesIdByCode : ℕ → ℕ → ℕ → Keeper → Keeper → ℕ → Type 0
-ChoosesIdByCode id told tells old new code =
-    (named : Option ℕ) × (code ≡ chosen_code named) × (tells ≡ chosen_or told named)
-    × ChoosesId id old.clerk new.clerk named × StaysButClerk old new
+ChoosesIdByCode id told tells old new =
+    ByCode chosen_code
+    (λ named. (tells ≡ chosen_or told named) × ChoosesId id old.clerk new.clerk named × StaysButClerk old new)
 
 -- each way of the id's group has an open upquery
 abbrev pub IsAskedWhole : ℕ → IdWriterSide → Type 0

@@ -54,12 +54,14 @@ withdrawn_code withdrawn.Done = answer_cancelled
 withdrawn_code withdrawn.Closed = answer_stale
 withdrawn_code (withdrawn.Worn upquery) = answer_worn
 
+-- an id without a way has nothing; else the code is that of the way's key
+abbrev pub id_code : {Fault : Type 0} → (Result (Unit {0}) Fault → ℕ) → Result (Unit {0}) (IdFault Fault) → ℕ
+id_code code_of (Ok done) = answer_done
+id_code code_of (Err fault.Absent) = answer_nothing
+id_code code_of (Err (fault.Refused why)) = code_of (Err why)
+
 abbrev pub id_update_code : Result (Unit {0}) (IdFault UpdateFault) → ℕ
-id_update_code (Ok done) = answer_done
-id_update_code (Err fault.Absent) = answer_nothing
-id_update_code (Err (fault.Refused why)) = update_code (Err why)
+id_update_code = id_code update_code
 
 abbrev pub id_replace_code : Result (Unit {0}) (IdFault ReplaceFault) → ℕ
-id_replace_code (Ok done) = answer_done
-id_replace_code (Err fault.Absent) = answer_nothing
-id_replace_code (Err (fault.Refused why)) = replace_code (Err why)
+id_replace_code = id_code replace_code

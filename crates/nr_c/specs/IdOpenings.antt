@@ -11,9 +11,9 @@ use Rattle.nr_c.specs.Closings.{Closes, IsNewWatch}
 use Rattle.nr_c.specs.Endings.{Ends, EndsShare}
 use Rattle.nr_c.specs.Hands.{EndsIdHand}
 use Rattle.nr_c.specs.Ledgers.{no_entries}
-use Rattle.nr_c.specs.Live.{CallOfTwo, OpensSide}
+use Rattle.nr_c.specs.Live.{BothLead, CallOfTwo, OpensSide}
 use Rattle.nr_c.specs.Numbers.{answer_no_reader}
-use Rattle.nr_c.specs.Spares.{KeepsSpare, LeadsTo, TakesLast}
+use Rattle.nr_c.specs.Spares.{KeepsSpare, TakesLast}
 
 abbrev pub id_shape_of : NrIdShape → IdShape
 id_shape_of shape =
@@ -48,7 +48,7 @@ KeepsIdWriter =
 -- the reader's handle leads to the side of that reader, of the writer's map
 abbrev pub LeadsToIdReader : List IdWriterSide → IdCaller → List IdReaderSide → Type 0
 LeadsToIdReader before reader =
-    LeadsTo
+    BothLead
     (λ (held : IdWriterSide) (side : IdReaderSide). (side.map.value ≡ held.map.value)
     × (side.hand ≡ idle_by_id reader) × (side.watch.word ≡ held.watch.word) × IsNewWatch side.watch) before
 

@@ -7,7 +7,7 @@ use Rattle.nr_idmap.specs.declared.upqueries.Unfilled.TheVariants as unfilled
 use Rattle.nr_idmap.specs.declared.upqueries.Withdrawn.{Withdrawn}
 use Rattle.nr_idmap.specs.declared.upqueries.Withdrawn.TheVariants as withdrawn
 use Rattle.nr_idmap.specs.IdWrites.{AdmitsId, FillsId, RefusesId, WithdrawsId}
-use Rattle.nr_idmap.specs.Keepers.{Sent, id_rows}
+use Rattle.nr_idmap.specs.Keepers.{Owed, Sent, id_rows}
 use Rattle.nr_idmap.specs.Tags.{IsIdSet}
 use Rattle.nr_c.specs.declared.id_writer_side.IdWriterSide.{IdWriterSide}
 use Rattle.nr_c.specs.declared.kept_upquery.NrUpquery.{NrUpquery}
@@ -53,13 +53,12 @@ WithOwn upquery stays does old new code =
     IsStranger upquery stays old new code ⊎ ((upquery.map ≡ old.ledger.map) × does old new code)
 
 -- no upquery with these numbers is open
-pub record IsStale (wanted : NrUpquery) (old new : IdWriterSide) (code : ℕ) : Type 0 where
-  pub code_is : code ≡ answer_stale
-  pub stays : new.writer ≡ old.writer
-  pub none : KeepsNone wanted old.ledger new.ledger
+abbrev pub IsStale : NrUpquery → IdWriterSide → IdWriterSide → ℕ → Type 0
+IsStale wanted old new code =
+    (code ≡ answer_stale) × (new.writer ≡ old.writer) × KeepsNone wanted old.ledger new.ledger
 
 -- one that comes back is kept again, under its count
-abbrev pub kept_unfilled : ℕ → Result (Unit {0}) Unfilled → Entries → Entries
+abbrev pub kept_unfilled : {Made : Type 0} → ℕ → Result Made Unfilled → Entries → Entries
 kept_unfilled count (Ok done) kept = kept
 kept_unfilled count (Err unfilled.Closed) kept = kept
 kept_unfilled count (Err (unfilled.NoSlot upquery counts)) kept = keeps count upquery kept
@@ -69,15 +68,21 @@ kept_worn count withdrawn.Done kept = kept
 kept_worn count withdrawn.Closed kept = kept
 kept_worn count (withdrawn.Worn upquery) kept = keeps count upquery kept
 
--- the one that was kept is the map's fill
-pub record FillsKept (wanted : NrUpquery) (rows : List Row) (old new : IdWriterSide) (code : ℕ) : Type 0 where
+-- the one that was kept is given up by the map's answer, and then this is kept again
+pub record EndsKept {Answer : Type 0} (code_of : Answer → ℕ) (ends : Owed → Answer → Type 0)
+    (kept : ℕ → Answer → Entries → Entries) (wanted : NrUpquery) (old new : Entries) (code : ℕ) : Type 0 where
   pub upquery : Sent
   pub rest : Entries
-  pub gives_up : GivesUp wanted upquery old.ledger rest
-  pub answer : Result (Unit {0}) Unfilled
-  pub code_is : code ≡ filled_code answer
-  pub fills : FillsId upquery.owed rows old.writer new.writer answer
-  pub keeps : new.ledger ≡ kept_unfilled wanted.count answer rest
+  pub gives_up : GivesUp wanted upquery old rest
+  pub answer : Answer
+  pub code_is : code ≡ code_of answer
+  pub ended : ends upquery.owed answer
+  pub keeps : new ≡ kept wanted.count answer rest
+
+-- the one that was kept is the map's fill
+abbrev pub FillsKept : NrUpquery → List Row → IdWriterSide → IdWriterSide → ℕ → Type 0
+FillsKept wanted rows old new =
+    EndsKept filled_code (λ owed. FillsId owed rows old.writer new.writer) kept_unfilled wanted old.ledger new.ledger
 
 -- rows that are no id's change nothing
 pub record RefusesIdRows (rows : List Row) (old new : IdWriterSide) (code : ℕ) : Type 0 where
@@ -90,14 +95,8 @@ FillsIdByCode wanted rows old new code =
     RefusesIdRows rows old new code
     ⊎ (IsIdSet (id_rows old.writer.table) rows × (IsStale wanted old new code ⊎ FillsKept wanted rows old new code))
 
-pub record WithdrawsKept (wanted : NrUpquery) (old new : IdWriterSide) (code : ℕ) : Type 0 where
-  pub upquery : Sent
-  pub rest : Entries
-  pub gives_up : GivesUp wanted upquery old.ledger rest
-  pub answer : Withdrawn
-  pub code_is : code ≡ withdrawn_code answer
-  pub withdraws : WithdrawsId upquery.owed old.writer new.writer answer
-  pub keeps : new.ledger ≡ kept_worn wanted.count answer rest
-
 abbrev pub WithdrawsByCode : NrUpquery → IdWriterSide → IdWriterSide → ℕ → Type 0
-WithdrawsByCode wanted old new code = IsStale wanted old new code ⊎ WithdrawsKept wanted old new code
+WithdrawsByCode wanted old new code =
+    IsStale wanted old new code
+    ⊎ EndsKept withdrawn_code (λ owed. WithdrawsId owed old.writer new.writer) kept_worn wanted old.ledger new.ledger
+    code

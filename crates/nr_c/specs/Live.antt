@@ -23,9 +23,18 @@ Call Side = List Side → List Side → ℕ → Type 0
 abbrev pub CallOfTwo : Type 0 → Type 0 → Type 1
 CallOfTwo One Other = List One → List Other → List One → List Other → ℕ → Type 0
 
--- the handle leads somewhere
+-- the handle leads to a side of which this holds, and leads somewhere
+abbrev pub Leads : {Side : Type 0} → (Side → Type 0) → List Side → Type 0
+Leads has (held ∷ []) = has held
+Leads has live = ⊥
+
 abbrev pub IsLive : {Side : Type 0} → List Side → Type 0
-IsLive {Side = Side} live = (held : Side) × (live ≡ held ∷ [])
+IsLive = Leads (λ _. ⊤)
+
+-- two handles lead to sides of which this holds
+abbrev pub BothLead : {One Other : Type 0} → (One → Other → Type 0) → List One → List Other → Type 0
+BothLead have (one ∷ []) (other ∷ []) = have one other
+BothLead have ones others = ⊥
 
 -- the handle isn't live, which the code says; nothing has changed
 pub record RefusesClosed {Side : Type 0} (stays : Type 0) (before after : List Side) (code : ℕ) : Type 0 where
@@ -51,9 +60,9 @@ WhenEmpty does before after code =
 
 -- an opening by its code: sizes out of their limits are refused, and the handle leads to a new side, or nowhere
 abbrev pub OpensSide : {Side : Type 0} → (Side → Type 0) → Type 0 → List Side → ℕ → Type 0
-OpensSide {Side = Side} is_new are_bad after code =
+OpensSide is_new are_bad after code =
     ((code ≡ answer_bad_size) ↔ are_bad)
-    × (((code ≡ answer_done) × (side : Side) × (after ≡ side ∷ []) × is_new side)
+    × (((code ≡ answer_done) × Leads is_new after)
     ⊎ (((code ≡ answer_bad_size) ⊎ (code ≡ answer_no_memory)) × (after ≡ [])))
 
 -- an opening by a handle that is live, of another that isn't: it is refused else
@@ -77,23 +86,11 @@ abbrev pub writer_keys : WriterSide → ℕ
 writer_keys side = side.map.value.shape.keys
 
 -- the handle leads to a side of which this holds, so the call is refused, which the code says; nothing has changed
-pub record Refuses {Side : Type 0} (answer : ℕ) (why : Side → Type 0) (stays : Type 0) (before after : List Side)
-    (code : ℕ) : Type 0 where
-  pub code_is : code ≡ answer
-  pub stay : stays
-  pub held : Side
-  pub was : before ≡ held ∷ []
-  pub is : after ≡ held ∷ []
-  pub so : why held
+abbrev pub Refuses : {Side : Type 0} → ℕ → (Side → Type 0) → Type 0 → Call Side
+Refuses answer why stays before after code = (code ≡ answer) × stays × (after ≡ before) × Leads why before
 
 abbrev pub Unless : {Side : Type 0} → ℕ → (Side → Type 0) → Type 0 → Call Side → Call Side
 Unless answer why stays does before after code = Refuses answer why stays before after code ⊎ does before after code
-
--- the handle leads to a side of which this holds
-pub record Leads {Side : Type 0} (has : Side → Type 0) (before : List Side) : Type 0 where
-  pub held : Side
-  pub was : before ≡ held ∷ []
-  pub so : has held
 
 -- a call with a key: it is refused where there is no such key, and else does what it does
 abbrev pub WithKey : {Side : Type 0} → (Side → ℕ) → ℕ → Type 0 → Call Side → Call Side
@@ -113,13 +110,8 @@ abbrev pub ByIdleReader : ℕ → Type 0 → Call ReaderSide → Call ReaderSide
 ByIdleReader key stays does = WhenLive stays (WithKey reader_keys key stays (WhenIdle stays does))
 
 -- the handle leads to one side, before and after, of which so much stays, and which became the other
-pub record Turns {Side : Type 0} (stays became : Side → Side → Type 0) (before after : List Side) : Type 0 where
-  pub old : Side
-  pub new : Side
-  pub was : before ≡ old ∷ []
-  pub is : after ≡ new ∷ []
-  pub stay : stays old new
-  pub made : became old new
+abbrev pub Turns : {Side : Type 0} → (Side → Side → Type 0) → (Side → Side → Type 0) → List Side → List Side → Type 0
+Turns stays became = BothLead (λ old new. stays old new × became old new)
 
 -- a reader's, of the same map, whose hand became another, and what it knows of its writer
 abbrev pub HandTurns : (Watched → Watched → Type 0) → (Handed → Handed → Type 0) → List ReaderSide → List ReaderSide

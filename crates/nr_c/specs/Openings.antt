@@ -8,9 +8,9 @@ use Rattle.nr_map.specs.Opened.{IsOpened, words_of_large}
 use Rattle.nr_c.specs.Closings.{Closes, IsNewWatch}
 use Rattle.nr_c.specs.Endings.{Ends, EndsShare}
 use Rattle.nr_c.specs.Hands.{EndsHand}
-use Rattle.nr_c.specs.Live.{CallOfTwo, OpensSide}
+use Rattle.nr_c.specs.Live.{BothLead, CallOfTwo, Leads, OpensSide}
 use Rattle.nr_c.specs.Numbers.{answer_done, answer_no_memory, answer_no_reader}
-use Rattle.nr_c.specs.Spares.{KeepsSpare, LeadsTo, TakesLast}
+use Rattle.nr_c.specs.Spares.{KeepsSpare, TakesLast}
 use Rattle.nr_c.specs.declared.reader_side.ReaderSide.{ReaderSide}
 use Rattle.nr_c.specs.declared.writer_side.WriterSide.{WriterSide}
 
@@ -36,7 +36,7 @@ KeepsWriter =
 -- the reader's handle leads to the side of that reader, of the writer's map, which holds nothing
 abbrev pub LeadsToReader : List WriterSide → Caller → List ReaderSide → Type 0
 LeadsToReader before reader =
-    LeadsTo
+    BothLead
     (λ (held : WriterSide) (side : ReaderSide). (side.map.value ≡ held.map.value) × (side.hand ≡ idle reader)
     × (side.watch.word ≡ held.watch.word) × IsNewWatch side.watch) before
 
@@ -50,8 +50,8 @@ TakesReader before other after handle =
 -- handle; or for want of memory all stay
 abbrev pub ReturnsReader : CallOfTwo WriterSide ReaderSide
 ReturnsReader before other after handle code =
-    ((code ≡ answer_done) × (rest : List Caller) × (reader : Caller) × (held : ReaderSide) × (other ≡ held ∷ [])
-    × EndsHand held.hand reader × EndsShare held.map held.watch
+    ((code ≡ answer_done) × (rest : List Caller) × (reader : Caller)
+    × Leads (λ (held : ReaderSide). EndsHand held.hand reader × EndsShare held.map held.watch) other
     × KeepsWriter before after rest (rest ++ reader ∷ []) × (handle ≡ []))
     ⊎ ((code ≡ answer_no_memory) × (rest : List Caller) × KeepsWriter before after rest rest × (handle ≡ other))
 

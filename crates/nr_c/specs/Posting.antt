@@ -14,12 +14,8 @@ use Rattle.nr_c.specs.Numbers.{answer_done}
 use Rattle.nr_c.specs.declared.poster_side.PosterSide.{PosterSide}
 use Rattle.nr_c.specs.declared.taker_side.TakerSide.{TakerSide}
 
--- the handle leads to one side, of the same queue before and after, whose poster became another
-abbrev pub PosterCalls : (PosterSeen → PosterSeen → ℕ → Type 0) → Call PosterSide
-PosterCalls became before after code =
-    Turns (λ old new. new.queue ≡ old.queue) (λ old new. became old.poster new.poster code) before after
-
--- and the taker's, whose posters without a handle stay
+-- the handle leads to one side, of the same queue before and after, whose posters without a handle stay, and whose
+-- taker became another
 abbrev pub TakerCalls : (TakerSeen → TakerSeen → ℕ → Type 0) → Call TakerSide
 TakerCalls became before after code =
     Turns (λ old new. (new.queue ≡ old.queue) × (new.spare ≡ old.spare))
@@ -41,11 +37,11 @@ PostsByCode capacity key number old new code =
     × MatchResult answer (λ _. new.posted ≡ old.posted ++ request_of key number ∷ [])
     (λ fault. (new ≡ poster_tried old) × (fault ≡ post.Full → WasFull capacity old))
 
--- by a poster's handle
+-- by a poster's handle, which leads to one side, of the same queue before and after
 abbrev pub PostsOn : ℕ → ℕ → Call PosterSide
 PostsOn key number before after code =
-    (held : PosterSide) × (before ≡ held ∷ [])
-    × PosterCalls (PostsByCode held.queue.value.capacity key number) before after code
+    Turns (λ old new. new.queue ≡ old.queue)
+    (λ old new. PostsByCode old.queue.value.capacity key number old.poster new.poster code) before after
 
 -- a take by its code: the taker has taken a request of a key below the number, which is told; or nothing, what stood
 -- there stays, and where the queue was empty it was so at one moment of the call

@@ -4,9 +4,9 @@ use Rattle.nr_model.specs.Sizes.{IsBadSize}
 use Rattle.nr_core.specs.declared.shape.TheConstants.{MAX_LARGE_READERS, MAX_LARGE_SLOTS}
 use Rattle.nr_trigger.specs.Tokens.{IsOpenedQueue, PosterSeen}
 use Rattle.nr_c.specs.Endings.{HasEnded}
-use Rattle.nr_c.specs.Live.{CallOfTwo, OpensSide}
+use Rattle.nr_c.specs.Live.{BothLead, CallOfTwo, Leads, OpensSide}
 use Rattle.nr_c.specs.Numbers.{answer_done, answer_no_memory, answer_no_poster}
-use Rattle.nr_c.specs.Spares.{KeepsSpare, LeadsTo, TakesLast}
+use Rattle.nr_c.specs.Spares.{KeepsSpare, TakesLast}
 use Rattle.nr_c.specs.declared.poster_side.PosterSide.{PosterSide}
 use Rattle.nr_c.specs.declared.taker_side.TakerSide.{TakerSide}
 
@@ -30,7 +30,7 @@ KeepsTaker =
 -- the poster's handle leads to the side of that poster, of the taker's queue
 abbrev pub LeadsToPoster : List TakerSide → PosterSeen → List PosterSide → Type 0
 LeadsToPoster before poster =
-    LeadsTo
+    BothLead
     (λ (held : TakerSide) (side : PosterSide). (side.queue.value ≡ held.queue.value) × (side.poster ≡ poster))
     before
 
@@ -49,6 +49,7 @@ OneQueue [] poster = ⊤
 -- all stay
 abbrev pub ReturnsPoster : CallOfTwo TakerSide PosterSide
 ReturnsPoster before other after handle code =
-    ((code ≡ answer_done) × (rest : List PosterSeen) × (held : PosterSide) × (other ≡ held ∷ [])
-    × HasEnded held.queue × KeepsTaker before after rest (rest ++ held.poster ∷ []) × (handle ≡ []))
+    ((code ≡ answer_done) × (rest : List PosterSeen)
+    × Leads (λ (held : PosterSide). HasEnded held.queue × KeepsTaker before after rest (rest ++ held.poster ∷ [])) other
+    × (handle ≡ []))
     ⊎ ((code ≡ answer_no_memory) × (rest : List PosterSeen) × KeepsTaker before after rest rest × (handle ≡ other))

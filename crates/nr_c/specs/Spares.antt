@@ -9,15 +9,6 @@ abbrev pub KeepsSpare : {Side Token : Type 0} → (Side → List Token) → (Sid
 KeepsSpare spare stays before after had has =
     Turns stays (λ old new. (spare old ≡ had) × (spare new ≡ has)) before after
 
--- the other handle leads to a side of which, and of that of the one, this holds
-pub record LeadsTo {One Other : Type 0} (of : One → Other → Type 0) (before : List One) (handle : List Other) : Type
-    0 where
-  pub held : One
-  pub side : Other
-  pub was : before ≡ held ∷ []
-  pub is : handle ≡ side ∷ []
-  pub so : of held side
-
 -- no token is without a handle; or the last one without gets one, or for want of memory stays without
 abbrev pub TakesLast : {Token : Type 0} → ℕ → (List Token → List Token → Type 0) → (Token → Type 0) → Type 0 → ℕ
     → Type 0

@@ -1,13 +1,12 @@
-use Rattle.std.proofs.Common.{refl}
-use Rattle.nr_c.proofs.LiveHandles.{has_number, is_refused, turns}
+use Rattle.std.proofs.Common.{arith, inr, refl}
 use Rattle.nr_c.proofs.cache_flights.nr_cache_begin.Goals as goal
-
-pub returns-then-id-eq0 : goal.returns-then-id-eq0
-returns-then-id-eq0 c =
-    is_refused (λ handle. handle.live) c.is_live.ensures.same c.if-not-is_live.ensures.live c.if-id-eq0.true refl
 
 pub returns : goal.returns
 returns c =
-    has_number c.if-id-eq0.false (turns (λ handle. handle.live) c.is_live.ensures.same c.side-side.ensures.value
-    (refl, refl, refl)
-    (c.begin-begun.result, c.of_begun.ensures.code, c.begin-begun.ensures.begins, c.of_begun.ensures.told))
+    rw (← c.is_live.ensures.same, c.side-side.ensures.value) (inr (inr (
+      omega arith,
+      (
+        (refl, refl, refl),
+        (c.begin-begun.result, c.of_begun.ensures.code, (c.begin-begun.ensures.begins, c.of_begun.ensures.told)),
+      ),
+    )))

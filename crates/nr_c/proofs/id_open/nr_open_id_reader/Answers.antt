@@ -1,14 +1,14 @@
-use Rattle.std.proofs.Common.{◌≡◌, ◌∙◌, ◌++◌, List, [], ◌∷◌, ap, append-nil, arith, get_or, inl, inr, length, refl, sym}
+use Rattle.std.proofs.Common.{◌≡◌, ◌∙◌, [], ◌∷◌, ap, append-nil, arith, inl, inr, refl, sym, List, get_or, length}
 use Rattle.std.proofs.lemmas.Grind.{common_steps}
 use Rattle.std.proofs.lemmas.List.{get_or_append_left, length-append}
 use Rattle.nr_idmap.specs.Keepers.{IdCaller, id_table_of}
-use Rattle.nr_c.proofs.HandlesOpened.{leads_to, other_is_live, takes_back, takes_last, takes_none}
 use Rattle.nr_c.proofs.id_open.nr_open_id_reader.Goals as goal
 
 pub returns-then-is_live : goal.returns-then-is_live
 returns-then-is_live c =
-    other_is_live (λ handle. handle.live) (λ handle. handle.live) c.is_live.ensures.same c.is_live-2.ensures.same
-    c.if-not-is_live.ensures.live c.if-is_live.ensures.live
+    let lives = c.if-not-is_live.ensures.live in let other = c.if-is_live.ensures.live in
+    rw (← c.is_live.ensures.same, ← c.is_live-2.ensures.same, lives.1, other.1)
+    (inr (inl (refl, tt, tt, refl, refl)))
 
 pub returns-in_default : goal.returns-in_default
 returns-in_default c =
@@ -16,8 +16,8 @@ returns-in_default c =
     = grind (arith, common_steps, c.in_default.ensures.items, c.in_default.ensures.variant) in
     let left : c.pop.new.self.items ≡ []
     = sym (append-nil c.pop.new.self.items) ∙ sym c.in_default.ensures.items ∙ none in
-    takes_none (λ handle. handle.live) (λ handle. handle.live) c.is_live.ensures.same c.is_live-2.ensures.same
-    c.side-side.ensures.value c.if-is_live.ensures.empty (refl, refl, refl, refl) none left
+    rw (← c.is_live.ensures.same, c.side-side.ensures.value, ← c.is_live-2.ensures.same, c.if-is_live.ensures.empty)
+    (inr (inr (tt, refl, inl (refl, ((refl, refl, refl, refl), (none, left)), refl))))
 
 -- the readers that are left are the map's, as all were
 pub invariant_of-side-in-Ok-1 : goal.invariant_of-side-in-Ok-1
@@ -38,14 +38,37 @@ invariant_of-side-in-Ok-1 c =
 pub returns-in-Ok : goal.returns-in-Ok
 returns-in-Ok c =
     let (shared, reader) = c.in-Ok.ensures.ok in
-    takes_last (λ handle. handle.live) (λ handle. handle.live) c.is_live.ensures.same c.is_live-2.ensures.same
-    c.side-side.ensures.value c.if-is_live.ensures.empty (refl, refl, refl, refl)
-    c.pop.new.self.items c.in-Some.next c.in-Some.ensures.items refl
-    (leads_to (λ handle. handle.live) c.is_live.ensures.same c.side-side.ensures.value c.lead_to.ensures
-    (shared, reader, c.in-Ok.ensures.watch.0, c.in-Ok.ensures.watch.1))
+    rw (
+      ← c.is_live.ensures.same,
+      c.side-side.ensures.value,
+      ← c.is_live-2.ensures.same,
+      c.if-is_live.ensures.empty,
+      c.lead_to.ensures,
+    )
+    (inr (inr (
+      tt,
+      refl,
+      inr (inl (
+        refl,
+        c.pop.new.self.items,
+        c.in-Some.next,
+        ((refl, refl, refl, refl), (c.in-Some.ensures.items, refl)),
+        (shared, reader, c.in-Ok.ensures.watch.0, c.in-Ok.ensures.watch.1),
+      )),
+    )))
 
 pub returns-in-Err : goal.returns-in-Err
 returns-in-Err c =
-    takes_back (λ handle. handle.live) (λ handle. handle.live) c.is_live.ensures.same c.is_live-2.ensures.same
-    c.side-side.ensures.value c.if-is_live.ensures.empty (refl, refl, refl, refl)
-    c.pop.new.self.items c.in-Some.next c.in-Some.ensures.items c.push_reserved.ensures.items c.in-Err.ensures.back
+    let back = c.in-Err.ensures.back in
+    rw (← c.is_live.ensures.same, c.side-side.ensures.value, ← c.is_live-2.ensures.same, c.if-is_live.ensures.empty)
+    (inr (inr (
+      tt,
+      refl,
+      inr (inr (
+        refl,
+        c.pop.new.self.items,
+        c.in-Some.next,
+        ((refl, refl, refl, refl), (c.in-Some.ensures.items, cc c.push_reserved.ensures.items)),
+        refl,
+      )),
+    )))

@@ -1,31 +1,23 @@
-use Rattle.std.proofs.Common.{inl, inr, refl}
-use Rattle.nr_c.proofs.RowsAllowed.{no_id_rows, own_id_set}
+use Rattle.std.proofs.Common.{arith, inl, inr, refl}
 use Rattle.nr_c.proofs.KeptUpqueries.{owes_all}
-use Rattle.nr_c.proofs.LiveHandles.{has_number, is_refused, turns}
 use Rattle.nr_c.proofs.id_reclaims.nr_replace_id_reclaiming.Goals as goal
-
-pub returns-then-id-eq0 : goal.returns-then-id-eq0
-returns-then-id-eq0 c =
-    is_refused (λ handle. handle.live) c.is_live.ensures.same c.if-not-is_live.ensures.live c.if-id-eq0.true refl
 
 pub returns-in-Some : goal.returns-in-Some
 returns-in-Some c =
-    let refused = no_id_rows c.side-side.result.now c.rows.ensures c.deref.ensures c.args.rows.now c.in-Some.code
-    c.in-Some.ensures in
-    has_number c.if-id-eq0.false (turns (λ handle. handle.live) c.is_live.ensures.same c.side-side.ensures.value
-    (refl, refl, refl) (owes_all (λ way. refl) refl refl (inl (refused, refl, refl))))
+    let refused = rw (c.rows.ensures, c.deref.ensures, ← c.side-side.result.now.own) at c.in-Some.ensures in
+    rw (← c.is_live.ensures.same, c.side-side.ensures.value)
+    (inr (inr (omega arith, ((refl, refl, refl), owes_all (λ way. refl) refl refl (inl (refused, refl, refl))))))
 
 pub returns : goal.returns
 returns c =
-    let rows = own_id_set c.side-side.result.now c.rows.ensures c.deref.ensures c.args.rows.now c.in_default.ensures in
-    has_number c.if-id-eq0.false (turns (λ handle. handle.live) c.is_live.ensures.same c.side-side.ensures.value
-    (refl, refl, refl) (owes_all c.replace_reclaiming-answer.ensures.owes c.replace_reclaiming-answer.ensures.asker refl
-    (inr (
-      rows,
+    let rows = rw (c.rows.ensures, c.deref.ensures, ← c.side-side.result.now.own) at c.in_default.ensures in
+    let made = c.replace_reclaiming-answer in let does = made.ensures in
+    rw (← c.is_live.ensures.same, c.side-side.ensures.value)
+    (inr (inr (
+      omega arith,
       (
-        c.replace_reclaiming-answer.result,
-        c.of_id_replace_reclaiming.ensures,
-        c.replace_reclaiming-answer.ensures.replaces,
-        c.replace_reclaiming-answer.ensures.absent,
+        (refl, refl, refl),
+        owes_all does.owes does.asker refl
+            (inr (rows, (made.result, c.of_id_replace_reclaiming.ensures, (does.replaces, does.absent)))),
       ),
-    ))))
+    )))

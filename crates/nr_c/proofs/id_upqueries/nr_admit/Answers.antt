@@ -1,36 +1,25 @@
-use Rattle.std.proofs.Common.{inl, inr, refl, subst, sym, ◌∙◌}
+use Rattle.std.proofs.Common.{arith, inl, inr, refl, subst, sym, ◌∙◌}
 use Rattle.nr_c.specs.Ledgers.{AreOf, Entries}
 use Rattle.nr_c.proofs.LedgerLemmas.{kept_is_of}
-use Rattle.nr_c.proofs.LiveHandles.{has_number, is_refused, turns}
 use Rattle.nr_c.proofs.id_upqueries.nr_admit.Goals as goal
-
-pub returns-then-id-eq0 : goal.returns-then-id-eq0
-returns-then-id-eq0 c =
-    is_refused (λ handle. handle.live) c.is_live.ensures.same c.if-not-is_live.ensures.live c.if-id-eq0.true refl
 
 pub returns-in-Ok : goal.returns-in-Ok
 returns-in-Ok c = let keeps = c.keep_new.ensures in
-    has_number c.if-id-eq0.false (turns (λ handle. handle.live) c.is_live.ensures.same c.side-side.ensures.value
-    (refl, refl, refl) (inl (record {
-      code_is = refl;
-      upquery = c.in-Ok.opened;
-      admits = c.in-Ok.ensures.admits.1;
-      numbers = keeps.numbers;
-      count = keeps.count;
-      map = keeps.map;
-      keeps = keeps.keeps;
-    })))
-
-pub returns-in-Err : goal.returns-in-Err
-returns-in-Err c =
-    has_number c.if-id-eq0.false (turns (λ handle. handle.live) c.is_live.ensures.same c.side-side.ensures.value
-    (refl, refl, refl) (inr (record {
-      why = c.in-Err.why;
-      code_is = c.of_refused.ensures;
-      refuses = c.in-Err.ensures.refused;
-      stays = refl;
-      keeps = refl;
-    })))
+    rw (← c.is_live.ensures.same, c.side-side.ensures.value) (inr (inr (
+      omega arith,
+      (
+        (refl, refl, refl),
+        inl (record {
+          code_is = refl;
+          upquery = c.in-Ok.opened;
+          admits = c.in-Ok.ensures.admits.1;
+          numbers = keeps.numbers;
+          count = keeps.count;
+          map = keeps.map;
+          keeps = keeps.keeps;
+        }),
+      ),
+    )))
 
 pub invariant_of-side-clause-owed : goal.invariant_of-side-clause-owed
 invariant_of-side-clause-owed c =

@@ -1,8 +1,5 @@
-use Rattle.std.proofs.Common.{ℕ, ◌≡◌, ◌<◌, ◌≤◌, Err, IfErr, MatchResult, Ok, Result, ap, arith, refl, subst}
+use Rattle.std.proofs.Common.{ℕ, ◌≡◌, ◌<◌, ◌≤◌, Err, IfErr, MatchResult, Ok, Result, arith, inl, inr, refl}
 use Rattle.nr_trigger.specs.declared.faults.PostFault.{PostFault}
-use Rattle.nr_trigger.specs.declared.faults.PostFault.TheVariants as post
-use Rattle.nr_trigger.specs.Tokens.{Queue, WasFull}
-use Rattle.nr_c.proofs.LiveHandles.{has_key, lacks_key, led, turns}
 use Rattle.nr_c.proofs.posts.nr_post.Goals as goal
 
 -- what is said of each answer and what is said of a fault alone
@@ -16,23 +13,23 @@ pub returns-then-key-side : goal.returns-then-key-side
 returns-then-key-side c =
     let side = c.side-side.result.now in
     let above : side.poster.keys ≤ c.args.key = omega (arith, c.if-key-side.true, side.below) in
-    lacks_key (λ handle. handle.live) c.is_live.ensures.same c.side-side.ensures.value tt above
+    rw (← c.is_live.ensures.same, c.side-side.ensures.value) (inr (inl (refl, tt, refl, above)))
 
 pub returns : goal.returns
 returns c =
     let side = c.side-side.result.now in
     let below : c.args.key < side.poster.keys = omega (arith, c.if-key-side.false, side.below) in
-    let full
-    = subst (λ (n : ℕ). IfErr c.try_post.result (λ fault. fault ≡ post.Full → WasFull n side.poster))
-    (ap (λ (q : Queue). q.capacity) c.deref.ensures) c.try_post.ensures.full in
-    has_key (λ handle. handle.live) c.is_live.ensures.same c.side-side.ensures.value below (
-      side,
-      led (λ handle. handle.live) c.is_live.ensures.same c.side-side.ensures.value,
-      turns (λ handle. handle.live) c.is_live.ensures.same c.side-side.ensures.value refl (
-        c.try_post.ensures.own,
-        c.try_post.ensures.tries,
-        c.try_post.result,
-        c.of_post.ensures,
-        both _ _ _ c.try_post.result c.try_post.ensures.posted full,
+    let full = rw c.deref.ensures at c.try_post.ensures.full in
+    rw (← c.is_live.ensures.same, c.side-side.ensures.value) (inr (inr (
+      below,
+      (
+        refl,
+        (
+          c.try_post.ensures.own,
+          c.try_post.ensures.tries,
+          c.try_post.result,
+          c.of_post.ensures,
+          both _ _ _ c.try_post.result c.try_post.ensures.posted full,
+        ),
       ),
-    )
+    )))

@@ -1,28 +1,19 @@
-use Rattle.std.proofs.Common.{ℕ, ◌∙◌, ap, inl, inr, refl, subst, sym}
-use Rattle.nr_board.specs.Reclaiming.{UpdatesReclaiming}
-use Rattle.nr_board.specs.Callers.{Table}
-use Rattle.nr_c.specs.RowCells.{ShowsSet}
-use Rattle.nr_c.proofs.LiveHandles.{lacks_key, turns_at}
+use Rattle.std.proofs.Common.{inl, inr, refl}
 use Rattle.nr_c.proofs.reclaims.nr_update_reclaiming.Goals as goal
-
-pub returns-then-not-has_key : goal.returns-then-not-has_key
-returns-then-not-has_key c =
-    lacks_key (λ handle. handle.live) c.is_live.ensures.same c.side-side.ensures.value refl
-    c.if-not-has_key.ensures.hasnt
 
 pub returns-then-not-are_batch : goal.returns-then-not-are_batch
 returns-then-not-are_batch c =
-    turns_at (λ handle. handle.live) c.is_live.ensures.same c.side-side.ensures.value c.if-not-has_key.ensures.has
-    (refl, refl, refl) (inl ((refl, c.if-not-are_batch.ensures.none, refl), refl))
+    let none = c.if-not-are_batch.ensures.none in
+    rw (← c.is_live.ensures.same, c.side-side.ensures.value)
+    (inr (inr (c.if-not-has_key.ensures.has, ((refl, refl, refl), inl ((refl, none, refl), refl)))))
 
 pub returns : goal.returns
 returns c =
-    let side = c.side-side.result.now in let made = c.update_reclaiming-answer in
-    let bound = ap (λ (t : Table). t.shape.rows) (c.deref.ensures ∙ sym side.own) in
-    let updates
-    = subst
-    (λ (n : ℕ). UpdatesReclaiming ShowsSet n c.args.key c.args.deltas.now side.writer c.args.had.now
-    made.new.writer made.new.had made.result)
-    bound made.ensures in
-    turns_at (λ handle. handle.live) c.is_live.ensures.same c.side-side.ensures.value c.if-not-has_key.ensures.has
-    (refl, refl, refl) (inr (c.if-not-are_batch.ensures.batch, made.result, c.of_update_reclaiming.ensures, updates))
+    let made = c.update_reclaiming-answer in
+    let updates = rw (c.deref.ensures, ← c.side-side.result.now.own) at made.ensures in
+    let batch = c.if-not-are_batch.ensures.batch in
+    rw (← c.is_live.ensures.same, c.side-side.ensures.value)
+    (inr (inr (
+      c.if-not-has_key.ensures.has,
+      ((refl, refl, refl), inr (batch, (made.result, c.of_update_reclaiming.ensures, updates))),
+    )))

@@ -1,38 +1,15 @@
 -- `empty` puts null beside its allocator, and owns nothing with it.
-use mathlib.Core.Path.{refl, sym, subst}
-use mathlib.Core.List.{List, [], ◌∷◌, ◌++◌}
-use lib.Dec.{lit<}
-use seplogic.Ra.Ura.{Ura}
-use mir.Val.{Val, vnull, vstruct, vcons, vnil}
-use base.Logic.{ent, emp, id⊢}
-use base.Fml.{ftrue, fsep}
-use prog.Wp.{WpFn, Tables}
-use types.Logic.{Logic}
-use types.Kit.{Item, ‵, raw, ◌⊛◌, ◌$◌, ◌∵◌, !, qed, by, move, drop, use1, join, split, fsplit, fjoin, fpack, feq_i}
-use types.Kit.{suffices, done}
-use types.Part.{agg}
-use types.Run.{lit, no_more, and_then, returns, enter}
-use types.ByLocal.{alloc_all, pass_all, free_all, look_at, get, sets}
-use denote.Exit.{yes}
-use denote.RattleType.{Valss}
-use denote.RawPtr.{Ptr, RawPtr, null_ptr, ptr_val}
-use denote.Signature.{type_at}
-use denote.Steps.{nothing}
-use denote.Struct.Struct.{within}
-use denote.Struct.Owning.{shape}
-use denote.Triple.Walked.{says, Stays, walk_of, ends_at}
-use Rattle.std_alloc.proofs.BoxSteps.Form.{P, owning}
+use Rattle.nr_c.proofs.Walks.{Bx, Clauses, Ended, Fn, Item, List, Logic, P, Ptr, RawPtr, Stays, Tables, Ura, Val}
+use Rattle.nr_c.proofs.Walks.{Valss, WpFn, [], !, agg, alloc_all, and_then, by, done, drop, emp, ends_at, ent, enter}
+use Rattle.nr_c.proofs.Walks.{feq_i, fjoin, fpack, free_all, fsep, fsplit, ftrue, get, handle_tells, has_ty, id⊢}
+use Rattle.nr_c.proofs.Walks.{inst_fn, join, lit, lit<, look_at, move, no_more, nothing, null_ptr, owning, pass_all}
+use Rattle.nr_c.proofs.Walks.{ptr_val, qed, raw, refl, returns, says, sets, shape, split, subst, suffices, sym}
+use Rattle.nr_c.proofs.Walks.{type_at, use1, vcons, vnil, vnull, vstruct, walk_of, within, yes, α, ‵, ◌$◌, ◌++◌, ◌∵◌}
+use Rattle.nr_c.proofs.Walks.{◌∷◌, ◌≡◌, ◌⊛◌}
 use Rattle.std_alloc.proofs.ResultValues.{and_tt}
-use Rattle.std.proofs.alloc.Calls.{handle_tells, α}
-use mir.Val.{has_ty}
 use Rattle.std_heap.specs.contracts.Global as Heap
-use denote.Triple.Clauses.{Clauses, Ended}
-use mir.Syntax.{Fn}
-use mir.MapTy.{inst_fn}
 use Rattle.nr_c.proofs.HandleMet.{asks_and_gives, at_token, stays, taken, takes}
 use Rattle.nr_c.proofs.HandleBox.{Token, boxed, at, Row}
-use mathlib.Core.Path.{◌≡◌}
-use Rattle.std_alloc.proofs.BoxSteps.Form.{Bx}
 use Rattle.nr_c.specs.contracts.handle.Handle.empty.Key.{name as #self}
 use Rattle.nr_c.proofs.handle.Handle.empty.Statement as stated
 use Rattle.nr_c.proofs.handle.Handle.empty.Code as code

@@ -1,30 +1,12 @@
 -- `into_parts` moves two fields, and what they own goes with them.
-use mathlib.Core.Path.{◌≡◌, refl, sym, subst}
-use mathlib.Core.List.{List, [], ◌∷◌, ◌++◌}
-use seplogic.Ra.Ura.{Ura}
-use mir.Val.{Val}
-use base.Logic.{ent, id⊢}
-use base.Fml.{ftrue, fsep}
-use prog.Wp.{WpFn, Tables}
-use types.Logic.{Logic}
-use contract.Monad.{fact}
-use types.Kit.{Item, rewrite, ‵, raw, ◌⊛◌, ◌$◌, ◌∵◌, !, qed, by, move, drop, use1, join, split, fsplit, fjoin, suffices}
-use types.Kit.{done}
-use types.Part.{whole, sub, agg}
-use types.Run.{stop, fld, no_more, and_then, of_opd, returns, enter}
-use types.ByLocal.{alloc_all, pass_all, free_all, look_at, get, get_in, sets}
-use denote.Exit.{no}
-use denote.Signature.{type_at}
-use denote.Steps.{nothing, heard}
-use denote.Triple.Walked.{says, Stays, walk_of, ends_at}
-use Rattle.std_alloc.proofs.BoxSteps.Form.{D, B, word, box_typed}
-use Rattle.std_alloc.proofs.BoxSteps.Steps.{box_out, box_in}
-use denote.Triple.Clauses.{Clauses, Ended}
-use mir.Syntax.{Fn}
-use mir.MapTy.{inst_fn}
+use Rattle.nr_c.proofs.Walks.{B, Bx, Clauses, D, Ended, Fn, Item, List, Logic, Stays, Tables, Ura, Val, WpFn, X, [], ! }
+use Rattle.nr_c.proofs.Walks.{agg, alloc_all, and_then, box_in, box_out, box_typed, by, done, drop, ends_at, ent}
+use Rattle.nr_c.proofs.Walks.{enter, fact, fjoin, fld, free_all, fsep, fsplit, ftrue, get, get_in, heard, id⊢, inst_fn}
+use Rattle.nr_c.proofs.Walks.{join, look_at, move, no, no_more, nothing, of_opd, pass_all, qed, raw, refl, returns}
+use Rattle.nr_c.proofs.Walks.{rewrite, says, sets, split, stop, sub, subst, suffices, sym, type_at, use1, walk_of}
+use Rattle.nr_c.proofs.Walks.{whole, word, ‵, ◌$◌, ◌++◌, ◌∵◌, ◌∷◌, ◌≡◌, ◌⊛◌}
 use Rattle.nr_c.proofs.HandleMet.{asks_and_gives, at_token, stays, taken, takes}
 use Rattle.nr_c.proofs.HandleBox.{Token, boxed, at, Row, Apart}
-use Rattle.std_alloc.proofs.BoxSteps.Form.{Bx, X}
 use Rattle.nr_c.specs.contracts.handle.Handle.into_parts.Key.{name as #self}
 use Rattle.nr_c.proofs.handle.Handle.into_parts.Statement as stated
 use Rattle.nr_c.proofs.handle.Handle.into_parts.Code as code

@@ -1,51 +1,22 @@
 -- `is_live` reads the pointer and compares it with null; the handle stays.
-use mathlib.Core.Path.{◌≡◌, refl, sym, subst, ap}
+use Rattle.nr_c.proofs.Walks.{B, Bx, Clauses, D, Ended, Fn, GName, Goes-ref, Lft, List, Logic, Meets, MutRef, P, Ptr}
+use Rattle.nr_c.proofs.Walks.{RawPtr, RefMutOf, SProp, Share, Stays, Tables, Testable, Ura, Val, Valss, WpFn}
+use Rattle.nr_c.proofs.Walks.{WpFn-mono, X, [], !, alloc_all, ap, bin, block_ptr, bool, box_in, box_out, by, cell_at}
+use Rattle.nr_c.proofs.Walks.{closes, closing, done, emp, ends_at, ent, enter, fact, fact_i, fact_use, feq_i, feq_l}
+use Rattle.nr_c.proofs.Walks.{fjoin, fld, flft, fpack, fpick, free_all, fsplit, fsplit3, ftrue, full_share, get, given}
+use Rattle.nr_c.proofs.Walks.{group, guard_i, handle_tells, id⊢, inst_fn, join, keep, learn, lit, lit<, load, look_at}
+use Rattle.nr_c.proofs.Walks.{look_in, move, mut_Tells, mut_vals, named, never_e, nothing, null_ptr, of_list, of_opd}
+use Rattle.nr_c.proofs.Walks.{opens, owned, owning, pass_all, plain, ptr_val, qed, raw, refl, returns, rewrite, sem}
+use Rattle.nr_c.proofs.Walks.{sep, sets, shape, split, stay_ref, stop, sub, subst, suffices, sym, tests_null, through}
+use Rattle.nr_c.proofs.Walks.{token, un, use0, use1, vbool, vcons, vnil, vnull, vptr, vstruct, walk_Meets, walk_of}
+use Rattle.nr_c.proofs.Walks.{walked, whole, within, word, yes, τ, ‵, ℕ, ◌$◌, ◌++◌, ◌∵◌, ◌∷◌, ◌≡◌, ◌⊛◌}
 use mathlib.Core.Bool.{true, false}
-use mathlib.Core.List.{List, [], ◌∷◌, ◌++◌}
-use lib.Dec.{lit<}
-use Prim.Native.Nat.{ℕ}
-use seplogic.Ra.Ura.{Ura}
-use base.Fraction.{full_share}
-use mir.Syntax.{named}
 use mir.Raw.{raw as bare}
-use mir.Val.{Val, vbool, vnull, vptr, vstruct, vcons, vnil, of_list}
-use base.Logic.{SProp, ent, emp, guard_i, id⊢, never_e}
-use base.Fml.{Lft, GName, Share, ftrue, flft}
-use prog.Wp.{WpFn, Tables}
-use types.Logic.{Logic, sem}
-use contract.Monad.{fact, fact_i, fact_use}
-use sound.WpLaws.{WpFn-mono}
-use types.Kit.{given, learn, raw, ‵, ◌⊛◌, ◌$◌, ◌∵◌, !, qed, by, move, keep, use0, use1, split, join, rewrite, fsplit}
-use types.Kit.{fsplit3, fjoin, fpick, fpack, feq_i, feq_l, suffices, group, done}
-use types.Part.{whole, sub, look_in}
-use types.Run.{stop, fld, load, of_opd, bin, un, lit, returns, enter}
-use types.ByLocal.{alloc_all, pass_all, free_all, look_at, get, through, sets}
-use denote.Builtin.{bool}
 use denote.Plain.{bool_Makes}
-use denote.RattleType.{Valss}
-use denote.Memory.{cell_at}
-use denote.RawPtr.{Ptr, RawPtr, block_ptr, null_ptr, ptr_val, Testable, tests_null}
-use denote.Ref.{MutRef, mut_vals, mut_Tells}
-use denote.Signature.{plain}
-use denote.Steps.{nothing, opens, closes, owned}
-use denote.Struct.Struct.{within}
-use denote.Struct.Owning.{shape}
-use denote.Triple.Spec.{Meets}
-use denote.Triple.Walked.{Stays, stay_ref, walk_of, walked, walk_Meets, ends_at, Goes-ref}
-use Rattle.std.proofs.alloc.Calls.{token, handle_tells}
 use Rattle.std.proofs.GlobalToken.{dealloc_token-Testable}
-use Rattle.std_alloc.proofs.BoxSteps.Form.{D, B, P, τ, owning, word}
-use Rattle.std_alloc.proofs.BoxSteps.Steps.{box_out, box_in}
-use denote.Triple.Clauses.{Clauses, Ended, closing}
-use mir.Syntax.{Fn}
-use mir.MapTy.{inst_fn}
 use Rattle.nr_c.proofs.HandleMet.{at_token}
 use Rattle.nr_c.proofs.HandleBox.{Token, boxed, at, Row}
-use denote.Exit.{yes}
-use denote.Builtin.{RefMutOf}
-use base.Logic.{sep}
 use Rattle.std.specs.Bool.{OnFalse, OnTrue}
-use Rattle.std_alloc.proofs.BoxSteps.Form.{Bx, X}
 use Rattle.nr_c.specs.contracts.handle.Handle.is_live.Key.{name as #self}
 use Rattle.nr_c.proofs.handle.Handle.is_live.Statement as stated
 use Rattle.nr_c.proofs.handle.Handle.is_live.Code as code

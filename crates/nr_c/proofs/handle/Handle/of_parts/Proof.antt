@@ -1,29 +1,12 @@
 -- `of_parts` moves two fields, and what they own goes with them.
-use mathlib.Core.Path.{refl, sym, subst}
-use mathlib.Core.List.{List, [], ◌∷◌, ◌++◌}
-use seplogic.Ra.Ura.{Ura}
-use mir.Val.{Val}
-use base.Logic.{ent, emp, id⊢}
-use base.Fml.{ftrue, fsep}
-use prog.Wp.{WpFn, Tables}
-use types.Logic.{Logic}
-use types.Kit.{Item, ‵, raw, ◌⊛◌, ◌$◌, ◌∵◌, !, qed, by, move, drop, use1, join, split, fsplit, fjoin, suffices, done}
-use types.Part.{whole, sub, agg}
-use types.Run.{stop, fld, no_more, and_then, of_opd, returns, enter}
-use types.ByLocal.{alloc_all, pass_all, free_all, look_at, get, get_in, sets}
-use denote.Exit.{no}
-use denote.Signature.{type_at}
-use denote.Steps.{nothing}
-use denote.Triple.Walked.{says, Stays, walk_of, ends_at}
-use Rattle.std_alloc.proofs.BoxSteps.Form.{D, B, word, box_typed}
-use Rattle.std_alloc.proofs.BoxSteps.Steps.{box_out, box_in}
-use denote.Triple.Clauses.{Clauses, Ended}
-use mir.Syntax.{Fn}
-use mir.MapTy.{inst_fn}
+use Rattle.nr_c.proofs.Walks.{B, Bx, Clauses, D, Ended, Fn, Item, List, Logic, Stays, Tables, Ura, Val, WpFn, [], ! }
+use Rattle.nr_c.proofs.Walks.{agg, alloc_all, and_then, box_in, box_out, box_typed, by, done, drop, emp, ends_at, ent}
+use Rattle.nr_c.proofs.Walks.{enter, fjoin, fld, free_all, fsep, fsplit, ftrue, get, get_in, id⊢, inst_fn, join}
+use Rattle.nr_c.proofs.Walks.{look_at, move, no, no_more, nothing, of_opd, pass_all, qed, raw, refl, returns, says}
+use Rattle.nr_c.proofs.Walks.{sets, split, stop, sub, subst, suffices, sym, type_at, use1, walk_of, whole, word, ‵}
+use Rattle.nr_c.proofs.Walks.{◌$◌, ◌++◌, ◌∵◌, ◌∷◌, ◌≡◌, ◌⊛◌}
 use Rattle.nr_c.proofs.HandleMet.{asks_and_gives, at_token, stays, taken, takes}
 use Rattle.nr_c.proofs.HandleBox.{Token, boxed, at, Row, Apart}
-use mathlib.Core.Path.{◌≡◌}
-use Rattle.std_alloc.proofs.BoxSteps.Form.{Bx}
 use Rattle.nr_c.specs.contracts.handle.Handle.of_parts.Key.{name as #self}
 use Rattle.nr_c.proofs.handle.Handle.of_parts.Statement as stated
 use Rattle.nr_c.proofs.handle.Handle.of_parts.Code as code

@@ -1,41 +1,17 @@
 -- `token` lends what the handle leads to, and the handle follows it.
-use mathlib.Core.Path.{◌≡◌, refl}
-use Prim.Native.Nat.{ℕ}
-use mathlib.Core.List.{List, [], ◌∷◌}
-use seplogic.Ra.Ura.{Ura}
-use base.Fraction.{full_share}
-use mir.Syntax.{Fn, named}
-use mir.MapTy.{inst_fn}
+use Rattle.nr_c.proofs.Walks.{B, Bx, Calls, Clauses, D, Ended, Env, Fml, Fn, GName, Goes-spent_ref, Lft, List, Logic}
+use Rattle.nr_c.proofs.Walks.{Loops, Meets, MutRef, Part, R, RefMutOf, SProp, Share, Stays, Tables, Ura, Val, WpFn}
+use Rattle.nr_c.proofs.Walks.{WpFn-mono, X, [], !, addr, after, alloc_all, at_ret, await, block_ptr, blocks, box_in}
+use Rattle.nr_c.proofs.Walks.{box_out, by, cell_at, closing, done, drop, ends_at, ent, enter, env, exec, fact, first}
+use Rattle.nr_c.proofs.Walks.{fjoin, fld, flft, follows, fpack, frame, free_all, fsep, fsplit, fsplit3, ftrue}
+use Rattle.nr_c.proofs.Walks.{full_share, get, group, handle, heard, id⊢, inst_fn, join, keep, later, lends_Part, load}
+use Rattle.nr_c.proofs.Walks.{look_at, look_in, mem, move, mut_Tells, mut_ref_to, mut_vals, named, no, nothing, of_opd}
+use Rattle.nr_c.proofs.Walks.{on_entry, opens, owns, part_at, part_of, pass_all, pick, plain, qed, raw, refl, returns}
+use Rattle.nr_c.proofs.Walks.{rewrite, says, sem, sep, sets, sets_last, some, split, stay_dropped, stop, sub, suffices}
+use Rattle.nr_c.proofs.Walks.{through, use1, vptr, walk_Meets, walk_of, walked, whole, word, τ, ‵, ℕ, ◌$◌, ◌∵◌, ◌∷◌}
+use Rattle.nr_c.proofs.Walks.{◌≡◌, ◌⊛◌}
 use mir.Raw.{raw as bare}
-use mir.Val.{Val, vptr}
-use base.Logic.{SProp, ent, sep, id⊢}
-use base.Fml.{Lft, GName, Share, Fml, ftrue, flft, fsep}
-use prog.Wp.{Env, Calls, Loops, WpFn, Tables}
-use types.Logic.{Logic, sem}
-use contract.Monad.{fact}
-use sound.WpLaws.{WpFn-mono}
-use types.Kit.{‵, ◌⊛◌, some, at_ret, ◌$◌, ◌∵◌, !, qed, by, move, keep, use1, drop, split, join, pick, rewrite, fsplit}
-use types.Kit.{fsplit3, fjoin, suffices, frame, done, raw, later, await, group, fpack}
-use types.Part.{whole, sub, look_in}
-use types.Run.{stop, fld, load, of_opd, first, blocks, exec, returns, enter, addr}
-use types.ByLocal.{alloc_all, pass_all, free_all, look_at, get, through, sets, env, sets_last}
-use denote.Builtin.{RefMutOf}
-use denote.RattleType.{owns}
-use denote.Memory.{part_at, mem, cell_at, part_of}
-use denote.RawPtr.{block_ptr}
-use denote.Ref.{MutRef, mut_vals, mut_Tells}
-use denote.Signature.{plain, mut_ref_to}
-use denote.Steps.{nothing, opens, heard}
-use denote.Triple.Clauses.{Clauses, Ended, closing}
-use denote.Triple.Entry.{on_entry}
-use denote.Triple.Spec.{Meets}
-use denote.Triple.Walked.{says, Stays, stay_dropped, walk_of, ends_at, walked, walk_Meets, Goes-spent_ref}
-use denote.Exit.{no}
-use denote.Follow.{follows, Part, lends_Part}
 use Rattle.std.proofs.alloc.Calls.{token as right}
-use Rattle.std.proofs.VecSteps.Shapes.{after}
-use Rattle.std_alloc.proofs.BoxSteps.Form.{Bx, X, D, R, B, τ, word, handle}
-use Rattle.std_alloc.proofs.BoxSteps.Steps.{box_out, box_in}
 use Rattle.nr_c.specs.HandleFollows.{with_token}
 use Rattle.nr_c.proofs.HandleMet.{at_token}
 use Rattle.nr_c.proofs.HandleBox.{Token, boxed, at, Row}

@@ -1,8 +1,0 @@
-use Rattle.std.proofs.Common.{inr, refl}
-use Rattle.nr_c.proofs.LiveHandles.{turns}
-use Rattle.nr_c.proofs.reclaims.nr_reap.Goals as goal
-
-pub returns : goal.returns
-returns c =
-    inr (turns (λ handle. handle.live) c.is_live.ensures.same c.side-side.ensures.value (refl, refl, refl)
-    (c.reap.result, c.of_reaped.ensures, c.reap.ensures))
