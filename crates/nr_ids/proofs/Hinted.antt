@@ -1,6 +1,6 @@
 -- Hints: the clerk alone writes them, and a way that has an id's name has the id's hint.
 use Rattle.std.proofs.Common.{◌≡◌, ◌≢◌, ℕ, ◌+◌, ◌*◌, ◌/◌, ◌%◌, ◌<◌, ◌==◌, cond, List, [], ◌∷◌, ◌++◌, refl, sym, ap, ◌∙◌}
-use Rattle.std.proofs.Common.{arith}
+use Rattle.std.proofs.Common.{arith, eq-eqb, ne_eqb}
 use mathlib.Core.Logic.{dite}
 use native.Mathlib.Decide.{ℕ_discrete}
 use Rattle.std.proofs.lemmas.Bool.Decides.{nat_tests}
@@ -9,7 +9,7 @@ use Rattle.nr_ids.specs.Groups.{group_of_way, hint_of, way_in}
 use Rattle.nr_ids.specs.Events.{Event, Touch, named, unnamed, touched, hinted, own, hint_at, hint_in, hints_after}
 use Rattle.nr_ids.specs.Events.{hints_of, name_of, IsLegal, MayTouch, maker}
 use Rattle.nr_ids.specs.Laws.{HintsTell}
-use Rattle.nr_ids.proofs.Logs.{cond_same, cond_else, with_or_without}
+use Rattle.nr_ids.proofs.Logs.{cond_same, with_or_without}
 
 -- the hints after some events are those after the clerk's alone
 pub exact_hints : (plan : Plan) (rest seen : List Event) (group : ℕ) → IsLegal plan (rest ++ seen)
@@ -56,14 +56,10 @@ own_hint plan (touched by touch ∷ log) way id legal real at =
         (λ (e : group ≡ group_of_way way).
         let here : way_in group (way % 8) ≡ way = omega (arith, e) in
         let has : name_of log (way_in group (way % 8)) ≡ id = ap (name_of log) here ∙ at in
-        ap (λ (n : ℕ). hint_at n (way % 8))
-        (cond_same hints (hints_of log (group_of_way way)) group (group_of_way way) e)
-        ∙ may.2 (way % 8) (omega arith) (λ none. absurd (omega (arith, has, none, real)))
-        ∙ ap (λ (g : ℕ). hint_at (hints_of log g) (way % 8)) e ∙ was)
-        (λ ne.
-        ap (λ (n : ℕ). hint_at n (way % 8))
-        (cond_else hints (hints_of log (group_of_way way)) group (group_of_way way) ne)
-        ∙ was)
+        rw (eq-eqb group (group_of_way way) e)
+        (may.2 (way % 8) (omega arith) (λ none. absurd (omega (arith, has, none, real)))
+        ∙ ap (λ (g : ℕ). hint_at (hints_of log g) (way % 8)) e ∙ was))
+        (λ ne. rw (ne_eqb group (group_of_way way) ne) was)
     by_touch t may was = was
 own_hint plan (event ∷ log) way id legal real at = own_hint plan log way id legal.1 real at
 

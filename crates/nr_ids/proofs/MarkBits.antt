@@ -1,11 +1,12 @@
 -- Use bits: what an or and an exclusive or make of them, and that a set one stays until the clerk turns it over.
 use Rattle.std.proofs.Common.{◌≡◌, ◌≢◌, ℕ, zero, suc, ◌+◌, ◌*◌, ◌%◌, ◌^◌, ◌<◌, ◌≤◌, ◌⊎◌, zero-mul, List, [], ◌∷◌}
-use Rattle.std.proofs.Common.{◌++◌, sym, ap, ◌∙◌, subst, arith, bit_and, bit_or, bit_xor, Bool, true, false, cond, ◌==◌}
+use Rattle.std.proofs.Common.{◌++◌, sym, ap, ◌∙◌, subst, arith, bit_and, bit_or, bit_xor, Bool, cond, ◌==◌}
 use Rattle.std.specs.Int.{bit_at}
 use Rattle.std.proofs.lemmas.Nat.Bits.{and_pow, bit_at-lt, bit_at-pow_other, bit_at-pow_same, bit_at-zero}
 use Rattle.std.proofs.lemmas.Nat.Bits.{bit_at_cat_low, bit_at_or}
 use Rattle.std.proofs.lemmas.Nat.{pow_below, pow_pos}
 use Rattle.std.proofs.Math.Nat.{mod-eq_of_lt}
+use Rattle.std.proofs.lemmas.Bool.Decides.{nat_tests}
 use Rattle.nr_ids.specs.declared.plan.Plan.{Plan}
 use Rattle.nr_ids.specs.Groups.{group_of_way}
 use Rattle.nr_ids.specs.Events.{Event, Touch, touched, marked, turned, maker, own, mark_bit, marks_after, marks_of}
@@ -41,9 +42,7 @@ bit_unset marks place low none =
 -- a set bit stays set by an or
 pub or_keeps : (b : Bool) (marks bits place : ℕ) → HasMark marks place
     → HasMark (cond b (bit_or marks bits) marks) place
-or_keeps true marks bits place set = let low = bit_at-lt bits place in
-    bit_at_or marks bits place ∙ omega (arith, set, low)
-or_keeps false marks bits place set = set
+or_keeps b marks bits place set = grind (arith, nat_tests, bit_at_or, bit_at-lt)
 
 pub quiet_mark : (plan : Plan) (rest log : List Event) (group place : ℕ) → own 0 rest ≡ [] → IsLegal plan (rest ++ log)
     → HasMark (marks_of log group) place → HasMark (marks_of (rest ++ log) group) place
