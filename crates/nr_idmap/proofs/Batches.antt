@@ -21,15 +21,11 @@ module _ {One : Type 0} where
   put_first : (many : ℕ) (ones done : List One) → length done ≡ length (take many ones) →
       (take many (done ++ drop many ones) ≡ done) × (drop many (done ++ drop many ones) ≡ drop many ones)
   put_first zero ones [] long = (refl, refl)
-  put_first zero ones (x ∷ done) long = let e : suc (length done) ≡ 0 = long in absurd (omega (arith, e))
   put_first (suc many) [] [] long = (refl, refl)
-  put_first (suc many) [] (x ∷ done) long = let e : suc (length done) ≡ 0 = long in absurd (omega (arith, e))
-  put_first (suc many) (one ∷ ones) [] long =
-      let e : 0 ≡ suc (length (take many ones)) = long in
-      absurd (omega (arith, e))
   put_first (suc many) (one ∷ ones) (x ∷ done) long =
       let e : suc (length done) ≡ suc (length (take many ones)) = long in
       let on = put_first many ones done (omega (arith, e)) in (ap (λ (l : List One). x ∷ l) on.0, on.1)
+  put_first many ones done long = absurd (omega (arith, long))
 
   put_batch : (n at : ℕ) (front back done : List One) → at < n → length front ≡ at * 16
       → length done ≡ length (take 16 back) →
@@ -37,9 +33,7 @@ module _ {One : Type 0} where
   put_batch zero at front back done low size long = absurd (omega (arith, low))
   put_batch (suc n) zero [] back done low size long =
       let put = put_first 16 back done long in λ j. put.0 j ∷ batches n (put.1 j)
-  put_batch (suc n) zero (x ∷ front) back done low size long =
-      let e : suc (length front) ≡ zero * 16 = size in
-      absurd (omega (arith, e))
+  put_batch (suc n) zero (x ∷ front) back done low size long = absurd (omega (arith, size))
   put_batch (suc n) (suc at) front back done low size long =
       let enough : 16 ≤ length front = omega (arith, size) in
       let rest : length (drop 16 front) ≡ at * 16 = omega (arith, length-drop 16 front, size) in

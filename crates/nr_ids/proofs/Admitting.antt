@@ -1,7 +1,7 @@
 -- What the clerk sees of room, writes of hints, and gains where it admits an id.
 use Rattle.std.proofs.Common.{◌≡◌, ◌≢◌, ℕ, zero, suc, ◌+◌, ◌/◌, ◌%◌, ◌<◌, ◌⊎◌, ⊎_elim, List, [], ◌∷◌, ◌++◌, ◌==◌, cond}
 use Rattle.std.proofs.Common.{refl, sym, ap, ◌∙◌, subst, arith, Option, Some, None, Ok, Err, get_or, set}
-use Rattle.std.proofs.Common.{get_or-set_other, get_or-set_same, inl, inr}
+use Rattle.std.proofs.Common.{get_or-set_other, get_or-set_same, inl, inr, eq-eqb, ne_eqb}
 use Rattle.std.specs.Prelude.{IfSome}
 use Rattle.std.specs.Int.{to_le_bytes, w64}
 use mathlib.Core.Logic.{dite}
@@ -177,16 +177,11 @@ module _ (way hint word : ℕ) (old mid : Token) (clerk : old.number ≡ 0) (loo
           ap (λ (n : ℕ). hint_at n (way % 8))
           (after (group_of_way way) ∙ cond_same word (hints_of old.seen (way / 8)) (way / 8) (way / 8) refl)
           ∙ own_place;
-      others = λ other apart. dite (ℕ_discrete (way / 8) (other / 8))
-          (λ (e : way / 8 ≡ other / 8).
-          ap (λ (n : ℕ). hint_at n (other % 8))
-          (after (group_of_way other) ∙ cond_same word (hints_of old.seen (other / 8)) (way / 8) (other / 8) e)
-          ∙ other_place (other % 8) (λ same. apart (omega (arith, e, same)))
-          ∙ ap (λ (n : ℕ). hint_at n (other % 8))
-          (clerk_hints (way / 8) clerk look ∙ ap (hints_of old.seen) e))
-          (λ ne.
-          ap (λ (n : ℕ). hint_at n (other % 8))
-          (after (group_of_way other) ∙ cond_else word (hints_of old.seen (other / 8)) (way / 8) (other / 8) ne));
+      others = λ other apart. rw (after (group_of_way other)) (dite (ℕ_discrete (way / 8) (other / 8))
+          (λ (e : way / 8 ≡ other / 8). rw (eq-eqb (way / 8) (other / 8) e)
+          (other_place (other % 8) (λ same. apart (omega (arith, e, same)))
+          ∙ ap (λ (n : ℕ). hint_at n (other % 8)) (clerk_hints (way / 8) clerk look ∙ ap (hints_of old.seen) e)))
+          (λ ne. rw (ne_eqb (way / 8) (other / 8) ne)));
     }
 
 -- AN ADMISSION
