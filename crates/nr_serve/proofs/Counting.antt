@@ -1,6 +1,6 @@
 -- Each step on the counts of a lobby keeps their rule.
-use Rattle.std.proofs.Common.{◌≡◌, ◌≢◌, ℕ, ◌+◌, ◌<◌, ◌≤◌, max, eqb, cond, zero, suc, List, [], ◌∷◌, ◌++◌}
-use Rattle.std.proofs.Common.{set, slice_index, refl, sym, ap, ◌∙◌, subst, arith, ⊎_elim, append-nil, length-set}
+use Rattle.std.proofs.Common.{◌≡◌, ◌≢◌, ℕ, ◌+◌, ◌<◌, ◌≤◌, max, eqb, zero, suc, List, [], ◌∷◌, ◌++◌}
+use Rattle.std.proofs.Common.{set, slice_index, refl, sym, ◌∙◌, subst, arith, ⊎_elim, append-nil, length-set}
 use Rattle.std.proofs.Common.{replicate, eq-eqb, ne_eqb, le_refl, le_trans, zero-le}
 use Rattle.std.proofs.lemmas.List.{length-replicate, get_or-set_same, get_or-set_other}
 use mathlib.Core.Logic.{dite}
@@ -10,11 +10,11 @@ use native.Mathlib.Decide.{ℕ_discrete}
 use prog.Atomic.{either}
 use Rattle.atomic_table.specs.Table.{Allows, Enters, Me, State, keeps, step, stepped, opening}
 use Rattle.atomic_table.proofs.Lists.{at_set, at_snoc}
-use Rattle.nr_core.specs.Sums.{total}
+use Rattle.nr_core.proofs.Sums.{only-other, only-same, total-append, total-set}
+use Rattle.nr_core.specs.Sums.{only, total}
 use Rattle.nr_serve.specs.Hands.{capped, last_count}
 use Rattle.nr_serve.specs.Counts.{AreCounts, IsLater, Visit, closed_at, has_closed, has_read_count, has_raised}
 use Rattle.nr_serve.specs.Counts.{how_often, new_guest}
-use Rattle.nr_serve.proofs.Totals.{how_often-append, total-set, total-snoc}
 
 abbrev pub S : Type 0
 S = State (Unit {0}) Visit
@@ -56,7 +56,7 @@ module _ (state : S) (are : AreCounts state) (id : ℕ) (me : Me (Unit {0}) Visi
         ≡ total (raised_at place) state.views + how_often place more
     more_raised place =
         omega
-        (arith, total-set (raised_at place) state.views id me.0 visit there, how_often-append place me.0.raised more)
+        (arith, total-set (raised_at place) state.views id me.0 visit there, total-append (only place) me.0.raised more)
 
     more_closed : total closes_of (set state.views id visit) ≡ total closes_of state.views + closings
     more_closed = omega (arith, total-set closes_of state.views id me.0 visit there)
@@ -147,14 +147,13 @@ module _ (id : ℕ) (me : Me (Unit {0}) Visit) where
       let n : ℕ = slice_index state.words place in
       dite (ℕ_discrete n count)
       (λ hit. let up : n ≤ next = omega (arith, hit, next_is, small) in
-      let one : how_often place (place ∷ []) ≡ 1 = ap (λ (b : _). cond b 1 0 + 0) (eq-eqb place place refl) in
       rw (eq-eqb n count hit) (
         after (set state.words place next) me.0 (place ∷ []) 0,
         keeps,
         tt,
         still_counts state are id me there place next (place ∷ []) 0 inside up
-            (λ _. omega (arith, hit, next_is, one, are.counted place is_count))
-            (λ other not _. ap (λ (b : _). cond b 1 0 + 0) (ne_eqb place other (λ same. not (sym same))))
+            (λ _. omega (arith, hit, next_is, only-same place, are.counted place is_count))
+            (λ other not _. omega (arith, only-other other place (λ same. not (sym same))))
             (λ _ at_last. omega (arith, closed at_last, are.seen id me.0 there closed_at))
             (λ same. absurd (is_count same)),
         (sees_more state are id me there place next (place ∷ []) 0 inside up, omega arith, refl),
@@ -175,9 +174,9 @@ enters slots place state are _ _ =
       visit,
       record {
         size = are.size;
-        counted = λ at count. omega (arith, are.counted at count, total-snoc (raised_at at) state.views visit);
+        counted = λ at count. omega (arith, are.counted at count, total-append (raised_at at) state.views (visit ∷ []));
         last = are.last;
-        closed = λ now. omega (arith, are.closed now, total-snoc closes_of state.views visit);
+        closed = λ now. omega (arith, are.closed now, total-append closes_of state.views (visit ∷ []));
         seen = λ id known at. ⊎_elim (λ was. are.seen id known was)
             (λ mine. subst (λ (v : Visit). IsLater v.seen state.words) mine
             (λ other. le_refl (slice_index state.words other)))

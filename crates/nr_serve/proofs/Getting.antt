@@ -9,10 +9,8 @@ use Rattle.nr_serve.specs.declared.hands.Hands.{Hands}
 use Rattle.nr_serve.specs.declared.answers.Got.{Got}
 use Rattle.nr_serve.specs.declared.answers.Got.TheVariants as got
 use Rattle.nr_serve.specs.declared.answers.Requested.{Requested}
-use Rattle.nr_serve.specs.declared.answers.Tried.TheVariants as tried
 use Rattle.nr_serve.specs.declared.sleepers.TooLate.{TooLate}
-use Rattle.nr_serve.specs.Gets.{Ends, Gets, GetsInTime, MayEnd, MissesAll, MissesOnce, TriesOnce}
-use Rattle.nr_serve.specs.Gets.{miss, misses, requested}
+use Rattle.nr_serve.specs.Gets.{Ends, Gets, GetsInTime, MayEnd, MissesAll, MissesOnce, miss, misses, requested}
 use Rattle.nr_serve.specs.Hands.{Moves, last_count}
 use Rattle.nr_serve.proofs.Moving.{moves_both, moves_none}
 
@@ -47,26 +45,26 @@ missed_none key a small =
     record { requests = []; count_is = refl; missed = refl; steps = 0; counted = λ _. refl; moves = moves_none a small }
 
 -- one try more that found a hole
-abbrev pub missed_more : (key n : ℕ) (a b c : Hands) (before rows : List Row) (request : Requested) → Missed key n a b
-    → TriesOnce key b before c rows (tried.Missed request) → Missed key (n + 1) a c
-missed_more key n a b c before rows request missed once =
+abbrev pub missed_more : {key n : ℕ} {a b c : Hands} {request : Requested} → Missed key n a b
+    → MissesOnce key b c request → Missed key (n + 1) a c
+missed_more {key} {a = a} {b = b} {c = c} {request = request} missed once =
     let by = a.reader.number in
     let all = misses-snoc by key missed.requests request in
     record {
       requests = missed.requests ++ request ∷ [];
       count_is = omega (arith, missed.count_is, length-append missed.requests (request ∷ []));
-      missed = misses_then key a b c missed.requests request missed.missed once.0;
-      steps = missed.steps + (once.0.steps + length (requested by key request));
+      missed = misses_then key a b c missed.requests request missed.missed once;
+      steps = missed.steps + (once.steps + length (requested by key request));
       counted = λ no_word.
-          let one : once.0.steps ≡ 1
-          = (subst (λ (w : Bool). HoleIn w once.0.named once.0.steps)
-          (same_words missed.steps a _ b missed.moves ∙ no_word) once.0.finds_in).1 in
+          let one : once.steps ≡ 1
+          = (subst (λ (w : Bool). HoleIn w once.named once.steps)
+          (same_words missed.steps a _ b missed.moves ∙ no_word) once.finds_in).1 in
           rw (all, length-append) (omega (arith, one, missed.counted no_word));
       moves =
           rw all
           (moves_both refl missed.moves
-          (subst (λ (at : ℕ). Moves (once.0.steps + length (requested at key request)) (miss at key request) b c)
-          missed.moves.makes.number once.0.moves));
+          (subst (λ (at : ℕ). Moves (once.steps + length (requested at key request)) (miss at key request) b c)
+          missed.moves.makes.number once.moves));
     }
 
 -- by the counts they took a step for each call

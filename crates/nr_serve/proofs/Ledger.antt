@@ -21,8 +21,7 @@ use Rattle.nr_serve.specs.Turns.{Spends, Takes, TurnsOrFails, kept_posts}
 use Rattle.nr_serve.specs.Ledger.{filled_by, Cancels, Does, EachTriggerEndsOnce}
 use Rattle.nr_serve.specs.Ledger.{Ending, Evicts, FailWorn, Fails, FillLacks}
 use Rattle.nr_serve.specs.Ledger.{Fills, Goes, Hears, IsEachOnce, Keeps, Lends, Looks, Opens, Replaces, Run}
-use Rattle.nr_serve.specs.Ledger.{TakesNone, TakesOne, Tells, TurnsOnce, Updates, ended_by, fate_by}
-use Rattle.nr_serve.specs.Ledger.{fills_of, posts_of}
+use Rattle.nr_serve.specs.Ledger.{TakesNone, TakesOne, Tells, TurnsOnce, Updates, ended_by, fate_by, fills_of, posts_of}
 use Rattle.nr_serve.proofs.Filled.{Made, cancel_made, evict_made, fill_made, fills_done-append, made_none, pass_made}
 use Rattle.nr_serve.proofs.Filled.{replace_made, update_made}
 

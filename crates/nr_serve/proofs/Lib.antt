@@ -1,4 +1,3 @@
-pub mod Totals
 pub mod Counting
 pub mod Later
 pub mod Ringing

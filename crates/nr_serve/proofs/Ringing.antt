@@ -3,13 +3,13 @@ use Rattle.std.proofs.Common.{◌≡◌, ◌∷◌, [], ◌++◌, ◌+◌, ℕ, 
 use Rattle.std.proofs.Common.{arith}
 use Rattle.std.proofs.lemmas.List.{replicate-append-replicate}
 use Rattle.nr_trigger.specs.declared.post.Upquery.{Upquery}
-use Rattle.nr_serve.specs.declared.hands.Hands.{Hands}
+use Rattle.nr_trigger.specs.Tokens.{PosterSeen}
 use Rattle.nr_serve.specs.Counts.{GuestSeen, OnlyLooks, Raises, rung_at}
-use Rattle.nr_serve.specs.Rings.{Rings}
+use Rattle.nr_serve.specs.Rings.{RingsFor}
 use Rattle.nr_serve.proofs.Later.{looks_raise, raises_both, raises_none}
 
 -- nothing was posted, and the guest only looked
-pub rings_none : (a b : Hands) (g h : GuestSeen) → b.poster.posted ≡ a.poster.posted → OnlyLooks g h → Rings a g b h
+pub rings_none : (a b : PosterSeen) (g h : GuestSeen) → b.posted ≡ a.posted → OnlyLooks g h → RingsFor a g b h
 rings_none a b g h same looks =
     record {
       count = 0;
@@ -17,16 +17,16 @@ rings_none a b g h same looks =
       raises = looks_raise g h looks;
     }
 
--- one ticket was posted, and the bell rung
-pub rings_once : (a b : Hands) (g h : GuestSeen) (upquery : Upquery) → b.poster.posted ≡ a.poster.posted ++ upquery ∷ []
-    → Raises (rung_at ∷ []) g h → Rings a g b h
+-- one upquery was posted, and the bell rung
+pub rings_once : (a b : PosterSeen) (g h : GuestSeen) (upquery : Upquery) → b.posted ≡ a.posted ++ upquery ∷ []
+    → Raises (rung_at ∷ []) g h → RingsFor a g b h
 rings_once a b g h upquery more raises = record {
   count = 1;
-  posted = omega (arith, ap (λ (l : List Upquery). length l) more, length-append a.poster.posted (upquery ∷ []));
+  posted = omega (arith, ap (λ (l : List Upquery). length l) more, length-append a.posted (upquery ∷ []));
   raises = raises;
 }
 
-pub rings_both : {a b c : Hands} {g h i : GuestSeen} → Rings a g b h → Rings b h c i → Rings a g c i
+pub rings_both : {a b c : PosterSeen} {g h i : GuestSeen} → RingsFor a g b h → RingsFor b h c i → RingsFor a g c i
 rings_both {g = g} {h = h} {i = i} one two = record {
   count = one.count + two.count;
   posted = omega (arith, one.posted, two.posted);
@@ -34,11 +34,11 @@ rings_both {g = g} {h = h} {i = i} one two = record {
       (raises_both g h i _ _ one.raises two.raises);
 }
 
--- the poster stayed the same
-pub rings_same : (a b : Hands) (g : GuestSeen) → b.poster ≡ a.poster → Rings a g b g
+-- the poster posted nothing
+pub rings_same : (a b : PosterSeen) (g : GuestSeen) → b.posted ≡ a.posted → RingsFor a g b g
 rings_same a b g same =
-    record { count = 0; posted = omega (arith, ap (λ (poster : _). length poster.posted) same); raises = raises_none g }
+    record { count = 0; posted = omega (arith, ap (λ (l : List Upquery). length l) same); raises = raises_none g }
 
 -- the guest looked
-pub rings_looks : {a b : Hands} {g h i : GuestSeen} → Rings a g b h → OnlyLooks h i → Rings a g b i
+pub rings_looks : {a b : PosterSeen} {g h i : GuestSeen} → RingsFor a g b h → OnlyLooks h i → RingsFor a g b i
 rings_looks {b = b} {h = h} {i = i} rings looks = rings_both rings (rings_none b b h i refl looks)

@@ -30,8 +30,7 @@ abbrev pub closed_at : ℕ
 closed_at = 520
 
 abbrev pub how_often : ℕ → List ℕ → ℕ
-how_often place [] = 0
-how_often place (other ∷ others) = only place other + how_often place others
+how_often place = total (only place)
 
 -- no number went down
 abbrev pub IsLater : List ℕ → List ℕ → Type 0

@@ -19,13 +19,16 @@ SleepsIf left count key is_pending kept guest =
     0 < left → is_pending → kept ≡ None →
     (count < slice_index guest.seen (group_at key)) ⊎ (0 < slice_index guest.seen closed_at)
 
+-- once where nothing is kept
+abbrev pub unless_kept : {Kept : Type 0} → Option Kept → ℕ
+unless_kept None = 1
+unless_kept (Some kept) = 0
+
 -- the sleeps after one try that found a hole: one where a fill is to come, and no ticket is kept
 abbrev pub sleeps_after : Requested → Option Request → ℕ
 sleeps_after NotMade kept = 0
-sleeps_after (Sent number) None = 1
-sleeps_after (Sent number) (Some ticket) = 0
-sleeps_after Waiting None = 1
-sleeps_after Waiting (Some ticket) = 0
+sleeps_after (Sent number) kept = unless_kept kept
+sleeps_after Waiting kept = unless_kept kept
 sleeps_after Filled kept = 0
 
 -- none where no try is left

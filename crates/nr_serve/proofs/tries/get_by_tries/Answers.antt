@@ -17,9 +17,7 @@ loop-i-init g c =
 pub returns-in-Ended-clause-waits : goal.returns-in-Ended-clause-waits
 returns-in-Ended-clause-waits g c =
     let so_far = c.loop-i.invariant in
-    sleeps_by_end c.args.key c.loop-i.i c.args.tries c.args.hands.now c.loop-i.hands c.try_once.new.hands
-    c.args.rows.now c.loop-i.rows c.try_once.new.rows c.in-Ended.got c.args.lobby.now c.loop-i.lobby
-    c.try_once.new.lobby c.loop-i-test.true so_far.slept so_far.rows c.in-Ended.ensures.tries
+    sleeps_by_end c.in-Ended.got so_far.slept c.loop-i-test.true so_far.rows c.in-Ended.ensures.tries
     (later_both _ _ _ c.count_for-counted.ensures.looks.later c.try_once.ensures.rings.raises.later)
 
 pub returns-in-Ended-clause-gets : goal.returns-in-Ended-clause-gets
@@ -34,9 +32,7 @@ returns-in_err-sleep_if-clause-waits g c =
     let so_far = c.loop-i.invariant in
     let counted = c.count_for-counted.ensures in
     let slept = c.in_err-sleep_if.ensures.slept in
-    sleeps_late _ c.args.key c.loop-i.i c.args.tries c.args.hands.now c.loop-i.hands c.try_once.new.hands
-    c.args.rows.now c.try_once.new.rows c.in-Missed.requested c.from_residual.result c.args.lobby.now c.loop-i.lobby
-    c.sleep_if.new.lobby c.from_residual.ensures.1 (omega (arith, slept.0)) so_far.slept
+    sleeps_late _ c.args.tries c.from_residual.result c.from_residual.ensures.1 so_far.slept (omega (arith, slept.0))
     (c.in-Missed.ensures.tries.1 ∙ so_far.rows) (rw (counted.key, counted.hands) at slept.1)
     (later_both _ _ _ counted.looks.later
     (later_both _ _ _ c.try_once.ensures.rings.raises.later c.sleep_if.ensures.looks.later))
@@ -60,10 +56,7 @@ loop-i-preserved g c =
     record {
       ready = c.try_once.ensures.ready;
       slept =
-          slept_more c.args.key c.loop-i.i (c.args.tries - 1) c.count_for-counted.result.count c.args.hands.now
-          c.loop-i.hands c.try_once.new.hands c.loop-i.rows c.try_once.new.rows c.in-Missed.requested c.args.lobby.now
-          c.loop-i.lobby c.count_for-counted.new.self c.sleep_if.new.lobby so_far.slept once counted.looks.later
-          counted.found
+          slept_more so_far.slept once.0 counted.looks.later counted.found
           (later_both _ _ _ c.try_once.ensures.rings.raises.later c.sleep_if.ensures.looks.later)
           (λ low. rw counted.key at (c.in_ok-sleep_if.ensures.sleeps (omega (arith, low))));
       rows = once.1 ∙ so_far.rows;
@@ -75,8 +68,7 @@ loop-i-preserved g c =
 
 pub returns-clause-waits : goal.returns-clause-waits
 returns-clause-waits g c =
-    sleeps_by_none c.args.key c.loop-i.i c.args.tries c.args.hands.now c.loop-i.hands c.args.rows.now c.loop-i.rows
-    c.args.lobby.now c.loop-i.lobby (omega (arith, c.loop-i-test.false, c.loop-i.auto.i-end)) c.loop-i.invariant.slept
+    sleeps_by_none c.loop-i.invariant.slept (omega (arith, c.loop-i-test.false, c.loop-i.auto.i-end))
     c.loop-i.invariant.rows
 
 pub returns-clause-gets : goal.returns-clause-gets

@@ -19,13 +19,6 @@ pub returns-clause-rings : goal.returns-clause-rings
 returns-clause-rings g c =
     let posted = c.post_kept in
     let same
-    = rings_same posted.new.hands
-    (record {
-      reader = c.pin.new.self.reader;
-      poster = c.hands.inside.poster;
-      kept = c.hands.inside.kept;
-      sends = c.hands.inside.sends;
-    })
-    posted.new.lobby
-    (ap (λ (hands : Hands). hands.poster) c.hands.view_is) in
+    = rings_same posted.new.hands.poster c.hands.inside.poster posted.new.lobby
+    (ap (λ (hands : Hands). hands.poster.posted) c.hands.view_is) in
     rings_both posted.ensures.rings (rings_both same c.request.ensures.rings)
