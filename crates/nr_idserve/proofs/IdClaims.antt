@@ -1,12 +1,13 @@
 -- Each claim that a client is granted is posted, or kept: try by try.
 use Rattle.std.proofs.Common.{◌≡◌, ◌≢◌, ℕ, zero, suc, List, [], ◌∷◌, ◌++◌, Option, None, Some, Ok, Err}
 use Rattle.std.proofs.Common.{refl, sym, ap, ◌∙◌, subst, append_assoc, append-nil, Bool, true, false}
+use Rattle.std.proofs.lemmas.List.{map-append}
 use Rattle.nr_model.specs.declared.rows.Row.{Row}
 use Rattle.nr_ids.specs.declared.requests.Requested.{Requested}
 use Rattle.nr_ids.specs.declared.requests.Requested.TheVariants as requested
-use Rattle.nr_ids.specs.Answers.{LooksUp, Requests}
+use Rattle.nr_ids.specs.Answers.{LooksUp}
 use Rattle.nr_ids.specs.Marks.{SetsMark}
-use Rattle.nr_ids.specs.Events.{Event, Touch, claimed, cleared, looked, looks, named, own, touched, unnamed}
+use Rattle.nr_ids.specs.Events.{Event, Touch, claimed, looks, own, touched}
 use Rattle.nr_ids.specs.Tokens.{Granted, Grows, Token}
 use Rattle.nr_ids.proofs.Logs.{own_append}
 use Rattle.nr_ids.proofs.Through.{grant_looks, looks_up, request_looks}
@@ -22,25 +23,16 @@ use Rattle.nr_idserve.specs.declared.answers.Missed.{Missed}
 use Rattle.nr_idserve.specs.declared.answers.Missed.TheVariants as missed
 use Rattle.nr_idserve.specs.declared.hands.IdHands.{IdHands}
 use Rattle.nr_idserve.specs.IdHands.{PostsFirst, PostsKept, with_id_reader}
-use Rattle.nr_idserve.specs.IdGets.{FindsOnce, GoesOn, MissesAll, MissesOnce, RequestsOnce}
+use Rattle.nr_idserve.specs.IdGets.{FindsOnce, GoesOn, IsRefused, MissesAll, MissesOnce, RequestsOnce}
 use Rattle.nr_idserve.specs.IdClaims.{EachClaimIsPosted, PostsEach, claimed_ids, ids_kept, ids_posted}
 
 claimed_ids-append : (l m : List Event) → claimed_ids (l ++ m) ≡ claimed_ids m ++ claimed_ids l
 claimed_ids-append [] m = sym (append-nil (claimed_ids m))
-claimed_ids-append (named way id ∷ l) m = claimed_ids-append l m
-claimed_ids-append (unnamed way ∷ l) m = claimed_ids-append l m
-claimed_ids-append (cleared group ∷ l) m = claimed_ids-append l m
-claimed_ids-append (claimed by id ∷ l) m = rw (claimed_ids-append l m, append_assoc)
-claimed_ids-append (looked by ∷ l) m = claimed_ids-append l m
-claimed_ids-append (touched by touch ∷ l) m = claimed_ids-append l m
+claimed_ids-append (event ∷ l) m = rw (claimed_ids-append l m, append_assoc)
 
 looks_claim_none : (count by : ℕ) → claimed_ids (looks count by) ≡ []
 looks_claim_none zero by = refl
-looks_claim_none (suc count) by = looks_claim_none count by
-
-ids_posted-append : (l m : List Upquery) → ids_posted (l ++ m) ≡ ids_posted l ++ ids_posted m
-ids_posted-append [] m = refl
-ids_posted-append (upquery ∷ l) m = rw (ids_posted-append l m)
+looks_claim_none (suc count) by = rw (looks_claim_none count by)
 
 -- a reader's own steps were granted claims of these ids
 record Claims (old : Token) (ids : List ℕ) (new : Token) : Type 0 where
@@ -108,7 +100,7 @@ each_both a b c one two =
     posts_each a c (mine ++ more) (one.gain ++ two.gain) (claims_both first second)
     (rw (two.posted, one.posted, append_assoc))
     (rw (← append_assoc, one.all, append_assoc (ids_posted one.gain) (ids_kept b.kept) more, two.all)
-    (rw (ids_posted-append, append_assoc)))
+    (rw (map-append, append_assoc)))
 
 each_same : (hands : IdHands) → PostsEach hands hands
 each_same hands =
@@ -125,16 +117,11 @@ post_each capacity old new kept ids claims posts all = by_kept kept new.kept ref
     by_kept : (before after : Option Granted) → new.kept ≡ after → PostsKept capacity before old.poster after new.poster
         → ids_kept old.kept ++ ids ≡ ids_kept before → PostsEach old new
     by_kept None after is posts all =
-        posts_each old new ids
-        [] claims (ap (λ (poster : PosterSeen). poster.posted) posts.1 ∙ sym (append-nil old.poster.posted))
-        (all ∙ sym (ap ids_kept (is ∙ posts.0)))
+        posts_each old new ids [] claims (rw (posts.1, append-nil)) (rw (is, posts.0) all)
     by_kept (Some claim) None is posts all =
-        posts_each old new ids (record { key = 0; number = claim.id } ∷ []) claims posts.posted
-        (all ∙ sym (ap (λ (l : Option Granted). claim.id ∷ ids_kept l) is))
+        posts_each old new ids (record { key = 0; number = claim.id } ∷ []) claims posts.posted (rw is all)
     by_kept (Some claim) (Some back) is posts all =
-        posts_each old new ids
-        [] claims (ap (λ (poster : PosterSeen). poster.posted) posts.1 ∙ sym (append-nil old.poster.posted))
-        (all ∙ sym (ap ids_kept is ∙ ap (λ (granted : Granted). granted.id ∷ []) posts.0))
+        posts_each old new ids [] claims (rw (posts.1, append-nil)) (rw (is, posts.0) all)
 
 first_each : (capacity : ℕ) (old new : IdHands) → PostsFirst capacity old new → PostsEach old new
 first_each capacity old new posts =
@@ -174,43 +161,20 @@ find_none shows id old before new after found.Moved (word, finds) =
     way_none id old.ids new.ids (Some finds.0) finds.2.0
 find_none shows id old before new after found.Absent (word, finds) = way_none id old.ids new.ids None finds.0
 
-abbrev requested_ids : Requested → List ℕ
-requested_ids (requested.Granted claim) = claim.id ∷ []
-requested_ids (requested.Named way) = []
-requested_ids requested.Busy = []
-requested_ids requested.Outrun = []
-requested_ids requested.Worn = []
-
-none_by : (id : ℕ) (old new : Token) (answer : Requested) → Requests id old new answer
-    → ((claim : Granted) → answer ≢ requested.Granted claim) → Claims old [] new
-none_by id old new answer requests none = let all = request_looks id old new answer none requests in
-    claims_none old new all.0 all.1
-
-refused_none : (id : ℕ) (old new : Token) (answer : Requested) → requested_ids answer ≡ [] → Requests id old new answer
-    → Claims old [] new
-refused_none id old new (requested.Granted claim) none requests = let no : claim.id ∷ [] ≡ [] = none in absurd (cc (no))
-refused_none id old new (requested.Named way) none requests = none_by id old new (requested.Named way) requests
-    (λ claim e. absurd (cc (e)))
-refused_none id old new requested.Busy none requests = none_by id old new requested.Busy requests
-    (λ claim e. absurd (cc (e)))
-refused_none id old new requested.Outrun none requests = none_by id old new requested.Outrun requests
-    (λ claim e. absurd (cc (e)))
-refused_none id old new requested.Worn none requests = none_by id old new requested.Worn requests
-    (λ claim e. absurd (cc (e)))
-
--- no claim was kept and none is, and nothing was posted
-quiet_each : (old new : IdHands) → old.kept ≡ None → new.kept ≡ None → new.poster ≡ old.poster
-    → Claims old.reader.ids [] new.reader.ids → PostsEach old new
-quiet_each old new none still poster claims =
+-- a request that was granted no claim
+refused_each : {id : ℕ} {old new : IdHands} (answer : Requested)
+    → ((claim : Granted) → answer ≢ requested.Granted claim) → IsRefused id old new answer → PostsEach old new
+refused_each {id} {old} {new} answer none is =
+    let all = request_looks id old.reader.ids new.reader.ids answer none is.requests.requests in
     posts_each old new []
-    [] claims (ap (λ (seen : PosterSeen). seen.posted) poster ∙ sym (append-nil old.poster.posted))
-    (ap (λ (kept : Option Granted). ids_kept kept ++ []) none ∙ sym (ap ids_kept still))
+    [] (claims_none old.reader.ids new.reader.ids all.0 all.1)
+    (ap (λ (seen : PosterSeen). seen.posted) is.poster ∙ sym (append-nil old.poster.posted))
+    (ap (λ (kept : Option Granted). ids_kept kept ++ []) is.requests.none ∙ sym (ap ids_kept is.kept))
 
 request_each : (capacity id : ℕ) (old : IdHands) (missed : Missed) (new : IdHands)
     → RequestsOnce capacity id old new missed → PostsEach old new
 request_each capacity id old missed.Pending new requests = absurd requests
-request_each capacity id old missed.NotRequested new requests =
-    subst (λ (hands : IdHands). PostsEach old hands) (sym requests.2) (each_same old)
+request_each capacity id old missed.NotRequested new requests = rw requests.2 (each_same old)
 request_each capacity id old missed.Claimed new requests =
     let won = requests.requests.requests in
     let all = grant_looks id old.reader.ids new.reader.ids won.0 in
@@ -222,23 +186,15 @@ request_each capacity id old missed.Claimed new requests =
     (ap (λ (kept : Option Granted). ids_kept kept ++ id ∷ []) requests.requests.none
     ∙ ap (λ (at : ℕ). at ∷ []) (sym won.2))
 request_each capacity id old missed.Named new requests =
-    quiet_each old new requests.1.requests.none requests.1.kept requests.1.poster
-    (refused_none id old.reader.ids new.reader.ids (requested.Named requests.0) refl requests.1.requests.requests)
-request_each capacity id old missed.Busy new requests =
-    quiet_each old new requests.requests.none requests.kept requests.poster
-    (refused_none id old.reader.ids new.reader.ids requested.Busy refl requests.requests.requests)
-request_each capacity id old missed.Outrun new requests =
-    quiet_each old new requests.requests.none requests.kept requests.poster
-    (refused_none id old.reader.ids new.reader.ids requested.Outrun refl requests.requests.requests)
-request_each capacity id old missed.Worn new requests =
-    quiet_each old new requests.requests.none requests.kept requests.poster
-    (refused_none id old.reader.ids new.reader.ids requested.Worn refl requests.requests.requests)
+    refused_each (requested.Named requests.0) (λ claim is. cc (is)) requests.1
+request_each capacity id old missed.Busy new requests = refused_each requested.Busy (λ claim is. cc (is)) requests
+request_each capacity id old missed.Outrun new requests = refused_each requested.Outrun (λ claim is. cc (is)) requests
+request_each capacity id old missed.Worn new requests = refused_each requested.Worn (λ claim is. cc (is)) requests
 
 goes_on_each : (capacity id : ℕ) (answer : FoundId) (old : IdHands) (missed : Missed) (new : IdHands)
     → GoesOn capacity id answer old new missed → PostsEach old new
 goes_on_each capacity id found.Rows old missed new goes = absurd goes
-goes_on_each capacity id found.Pending old missed new goes =
-    subst (λ (hands : IdHands). PostsEach old hands) (sym goes.1) (each_same old)
+goes_on_each capacity id found.Pending old missed new goes = rw goes.1 (each_same old)
 goes_on_each capacity id found.Moved old missed new goes = request_each capacity id old missed new goes
 goes_on_each capacity id found.Absent old missed new goes = request_each capacity id old missed new goes
 
@@ -256,7 +212,7 @@ miss_each capacity id old missed new tried =
 
 misses_each : (capacity id : ℕ) (old : IdHands) (all : List Missed) (new : IdHands) → MissesAll capacity id old new all
     → PostsEach old new
-misses_each capacity id old [] new same = subst (λ (hands : IdHands). PostsEach old hands) (sym same) (each_same old)
+misses_each capacity id old [] new same = rw same (each_same old)
 misses_each capacity id old (missed ∷ before) new tries =
     each_both old tries.0 new (misses_each capacity id old before tries.0 tries.1)
     (miss_each capacity id tries.0 missed new tries.2)
@@ -275,8 +231,7 @@ module _ {Room : Type 0} (shows : Room → List Row → Type 0) where
       each_both old gets.between new (misses_each capacity id old gets.misses.each gets.between gets.misses.all)
       (find_each capacity id gets.between before new after gets.ends.1)
   each_claim_is_posted_lem capacity id tries old new before after (Ok got.GaveUp) gets =
-      subst (λ (hands : IdHands). PostsEach old hands) (sym gets.ends.1)
-      (misses_each capacity id old gets.misses.each gets.between gets.misses.all)
+      rw gets.ends.1 (misses_each capacity id old gets.misses.each gets.between gets.misses.all)
   each_claim_is_posted_lem capacity id tries old new before after (Err late) gets =
       each_both old gets.last new (misses_each capacity id old gets.misses.each gets.last gets.misses.all)
       (miss_each capacity id gets.last gets.missed new gets.slept.tried)

@@ -10,7 +10,7 @@ use Rattle.nr_ids.specs.Events.{name_of}
 use Rattle.nr_idmap.specs.declared.finds.FoundId.{FoundId}
 use Rattle.nr_idmap.specs.declared.finds.FoundId.TheVariants as found
 use Rattle.nr_idmap.specs.IdFinds.{FindsById, FindsByName, with_line}
-use Rattle.nr_idmap.specs.IdHeard.{FindsIdHeard, FindsIdPut, HeardIdBefore}
+use Rattle.nr_idmap.specs.IdHeard.{FindsIdHeard, HeardIdBefore}
 use Rattle.nr_idmap.specs.IdNotes.{HearsIdNote, IdKnown, with_steps_of_split}
 use Rattle.nr_idmap.specs.Keepers.{IdCaller}
 use Rattle.nr_idserve.specs.declared.answers.GotId.{GotId}
@@ -120,21 +120,12 @@ module _ {Room : Type 0} (shows : Room → List Row → Type 0) (law : FindsIdHe
       let heard_before : HeardIdBefore note (with_steps_of_split old) asked = record {
         map = record { steps = 1; heard = heard.caller; hears = hears.map; table = later.table; seen = later.seen };
         ids = (later.ids.0 ++ hears.ids.knows.0, rw (later.ids.1, hears.ids.knows.1, append_assoc));
-      } in ⊎_elim
-      (λ unnamed. inl unnamed)
-      (λ (tells : FindsIdPut shows
-      (record { id = id; way = way; old = with_steps_of_split old; written = before ++ put ∷ []; since = since })
-      asked after room answer).
-      inr
-      (record {
-        told = tells.told;
-        tells = tells.tells;
-        more = tells.more;
-        seen = tells.seen;
-        finds = tells.finds;
-      }))
-      (law (with_steps_of_split old) asked after note id way before since put first room answer near real named had puts
-      heard_before finds)
+      } in
+      let told
+      = law (with_steps_of_split old) asked after note id way before since put first room answer near real named had
+      puts heard_before finds in
+      ⊎_elim (λ unnamed. inl unnamed)
+      (λ is. inr (record { told = is.told; tells = is.tells; more = is.more; seen = is.seen; finds = is.finds })) told
 
   module _ (capacity : ℕ) (room : Room) where
     -- each find of tries by a client that heard the note, and that client after them

@@ -1,5 +1,5 @@
 -- An idle turn made one attempt to take, which found nothing.
-use Rattle.std.proofs.Common.{◌≡◌, ℕ, List, Option, sym, ap, subst, ⊎_elim}
+use Rattle.std.proofs.Common.{ℕ, List, Option, ap, ⊎_elim}
 use Rattle.nr_model.specs.declared.rows.Row.{Row}
 use Rattle.nr_serve.specs.Turns.{AwaitsPost}
 use Rattle.nr_idserve.specs.declared.taking.Taken.{Taken}
@@ -15,14 +15,9 @@ module _ {S : Type 0} (gives : S → (id bound : ℕ) → List Row → S → Typ
       → AnswersTaken gives fails found mid before new after turn.Idle → TakesById said old new taken.Idle
   idle_take old mid new before after (taken.Asked sent) takes answers =
       absurd (⊎_elim (λ given. given.3) (λ failed. failed.1) answers)
-  idle_take old mid new before after (taken.Passed id) takes answers =
-      let is : turn.Idle ≡ turn.Passed id = answers.0 in
-      absurd (cc (is))
-  idle_take old mid new before after (taken.Full id) takes answers =
-      let is : turn.Idle ≡ turn.Full id = answers.0 in
-      absurd (cc (is))
-  idle_take old mid new before after taken.Idle takes answers =
-      subst (λ (new : IdFlowSeen). TakesById said old new taken.Idle) (sym answers.1) takes
+  idle_take old mid new before after (taken.Passed id) takes answers = cc (answers.0)
+  idle_take old mid new before after (taken.Full id) takes answers = cc (answers.0)
+  idle_take old mid new before after taken.Idle takes answers = rw answers.1 takes
 
   pub idle_awaits : (old new : IdFlowSeen) (before after : S)
       → TurnsById gives fails said old before new after turn.Idle → AwaitsPost old.taker new.taker

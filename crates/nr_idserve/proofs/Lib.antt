@@ -1,4 +1,3 @@
-pub mod IdRinging
 pub mod IdGetting
 pub mod IdWaiting
 pub mod IdOpen

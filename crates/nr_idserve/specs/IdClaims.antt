@@ -1,7 +1,7 @@
 -- No claim is lost that a client was granted.
-use Rattle.std.specs.Prelude.{◌≡◌, ℕ, List, [], ◌∷◌, ◌++◌, Option, None, Some, Result}
+use Rattle.std.specs.Prelude.{◌≡◌, ℕ, List, [], ◌∷◌, ◌++◌, map, Option, None, Some, Result}
 use Rattle.nr_model.specs.declared.rows.Row.{Row}
-use Rattle.nr_ids.specs.Events.{Event, claimed, cleared, looked, named, own, touched, unnamed}
+use Rattle.nr_ids.specs.Events.{Event, claimed, own}
 use Rattle.nr_ids.specs.Tokens.{Granted}
 use Rattle.nr_serve.specs.declared.sleepers.TooLate.{TooLate}
 use Rattle.nr_trigger.specs.declared.post.Upquery.{Upquery}
@@ -9,20 +9,18 @@ use Rattle.nr_idserve.specs.declared.answers.GotId.{GotId}
 use Rattle.nr_idserve.specs.declared.hands.IdHands.{IdHands}
 use Rattle.nr_idserve.specs.IdGets.{GetsIdInTime}
 
--- for which ids claims were granted by these events, oldest first
+-- for which id an event granted a claim, and for which ids these did, oldest first
+abbrev pub claimed_id : Event → List ℕ
+claimed_id (claimed by id) = id ∷ []
+claimed_id event = []
+
 abbrev pub claimed_ids : List Event → List ℕ
 claimed_ids [] = []
-claimed_ids (named way id ∷ log) = claimed_ids log
-claimed_ids (unnamed way ∷ log) = claimed_ids log
-claimed_ids (cleared group ∷ log) = claimed_ids log
-claimed_ids (claimed by id ∷ log) = claimed_ids log ++ id ∷ []
-claimed_ids (looked by ∷ log) = claimed_ids log
-claimed_ids (touched by touch ∷ log) = claimed_ids log
+claimed_ids (event ∷ log) = claimed_ids log ++ claimed_id event
 
 -- what was posted names, and the claim that is kept
 abbrev pub ids_posted : List Upquery → List ℕ
-ids_posted [] = []
-ids_posted (upquery ∷ posted) = upquery.number ∷ ids_posted posted
+ids_posted = map (λ upquery. upquery.number)
 
 abbrev pub ids_kept : Option Granted → List ℕ
 ids_kept None = []

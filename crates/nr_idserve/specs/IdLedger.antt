@@ -1,6 +1,7 @@
 -- What becomes of the claims that a dataflow by id takes, and of the upqueries that they open: each claim is answered,
 -- or kept; each upquery was filled or withdrawn, or it is in hand, and open still.
-use Rattle.std.specs.Prelude.{◌≡◌, ◌≤◌, ◌+◌, ℕ, List, [], ◌∷◌, ◌++◌, Option, None, Some, Result, Ok, Err}
+use Rattle.std.specs.Prelude.{◌≡◌, ◌≤◌, ◌+◌, ℕ, List, [], ◌∷◌, ◌++◌, map, Option, None, Some, Result, Ok, Err}
+use Rattle.std.specs.List.{flat_map}
 use Rattle.nr_model.specs.declared.batches.Delta.{Delta}
 use Rattle.nr_model.specs.declared.rows.Row.{Row}
 use Rattle.nr_model.specs.Histories.{Entry}
@@ -36,21 +37,18 @@ id_of (Opened owed) = owed.id
 id_of (Needless id) = id
 
 abbrev pub ids_of : List Answered → List ℕ
-ids_of [] = []
-ids_of (answered ∷ others) = id_of answered ∷ ids_of others
+ids_of = map id_of
 
 abbrev pub opened_of : Answered → List Owed
 opened_of (Opened owed) = owed ∷ []
 opened_of (Needless id) = []
 
 abbrev pub opened_by : List Answered → List Owed
-opened_by [] = []
-opened_by (answered ∷ others) = opened_of answered ++ opened_by others
+opened_by = flat_map opened_of
 
 -- what the claims name that came out of the queue, and the one that is kept
 abbrev pub ids_taken : List Post → List ℕ
-ids_taken [] = []
-ids_taken (post ∷ posts) = post.upquery.number ∷ ids_taken posts
+ids_taken = map (λ post. post.upquery.number)
 
 abbrev pub ids_refused : Option ℕ → List ℕ
 ids_refused None = []
@@ -65,8 +63,7 @@ abbrev pub ended : Owed → Fate → List IdEnding
 ended owed fate = record { owed = owed; fate = fate } ∷ []
 
 abbrev pub owed_of : List IdEnding → List Owed
-owed_of [] = []
-owed_of (ending ∷ endings) = ending.owed ∷ owed_of endings
+owed_of = map (λ ending. ending.owed)
 
 -- none of them passed
 abbrev pub IsAnswer : Fate → Type 0
@@ -85,18 +82,15 @@ filled_by owed Passed = []
 filled_by owed Failed = []
 
 abbrev pub fills_by : List IdEnding → List Filling
-fills_by [] = []
-fills_by (ending ∷ endings) = filled_by ending.owed ending.fate ++ fills_by endings
+fills_by = flat_map (λ ending. filled_by ending.owed ending.fate)
 
 -- WHAT IS IN HAND
 -- the upqueries in hand that are for a way, and for an id
 abbrev pub held_for : ℕ → List Owed → ℕ
-held_for way [] = 0
-held_for way (owed ∷ others) = only way owed.way + held_for way others
+held_for way = total (λ owed. only way owed.way)
 
 abbrev pub held_for_id : ℕ → List Owed → ℕ
-held_for_id id [] = 0
-held_for_id id (owed ∷ others) = only id owed.id + held_for_id id others
+held_for_id id = total (λ owed. only id owed.id)
 
 abbrev pub one_if_open : Option Owed → ℕ
 one_if_open None = 0

@@ -1,22 +1,17 @@
 -- How often a get by id sleeps. Each sleep but one that timed out ends once its guest has seen the count of the id's
 -- group rise, or the lobby closed.
-use Rattle.std.specs.Prelude.{◌+◌, ◌-◌, ℕ, List, [], ◌∷◌, length, Option, None, Some, Result, Ok, Err}
+use Rattle.std.specs.Prelude.{◌+◌, ◌-◌, ℕ, List, [], ◌∷◌, length, Option, Result, Ok, Err}
 use Rattle.nr_model.specs.declared.rows.Row.{Row}
 use Rattle.nr_ids.specs.Tokens.{Granted}
 use Rattle.nr_serve.specs.declared.sleepers.TooLate.{TooLate}
 use Rattle.nr_serve.specs.Counts.{GuestSeen}
-use Rattle.nr_serve.specs.Waits.{SawRaises, if_left}
+use Rattle.nr_serve.specs.Waits.{SawRaises, if_left, unless_kept}
 use Rattle.nr_idserve.specs.declared.answers.GotId.{GotId}
 use Rattle.nr_idserve.specs.declared.answers.Missed.{Missed}
 use Rattle.nr_idserve.specs.declared.answers.Missed.TheVariants.{Pending, NotRequested, Claimed, Named, Busy, Outrun}
 use Rattle.nr_idserve.specs.declared.answers.Missed.TheVariants.{Worn}
 use Rattle.nr_idserve.specs.declared.hands.IdHands.{IdHands}
 use Rattle.nr_idserve.specs.IdGets.{EndsIdLate, GetsId, Getting, MissesAll}
-
--- once where nothing is kept
-abbrev pub unless_kept : Option Granted → ℕ
-unless_kept None = 1
-unless_kept (Some claim) = 0
 
 -- the sleeps after one try that found no rows: one where the dataflow is to raise the group, and no claim is kept
 abbrev pub sleeps_after : Missed → Option Granted → ℕ

@@ -1,6 +1,5 @@
 pub mod IdServices
 pub mod IdHands
-pub mod IdRings
 pub mod IdGets
 pub mod IdWaits
 pub mod IdClaims

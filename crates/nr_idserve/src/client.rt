@@ -7,7 +7,7 @@ ghost use Rattle.nr_serve.specs.Counts.{IsNew, OnlyLooks, failed_at};
 ghost use Rattle.nr_idserve.specs.IdApplied.{HearsIdApplied};
 ghost use Rattle.nr_idserve.specs.IdGets.{GetsId, GetsIdInTime};
 ghost use Rattle.nr_idserve.specs.IdHands.{IsReadyFor, with_id_reader};
-ghost use Rattle.nr_idserve.specs.IdRings.{RingsFor};
+ghost use Rattle.nr_serve.specs.Rings.{RingsFor};
 ghost use Rattle.nr_idserve.specs.IdWaits.{GetsIdSleeping};
 
 use crate::answers::GotId;

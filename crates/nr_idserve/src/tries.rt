@@ -5,7 +5,7 @@ ghost use Rattle.nr_serve.specs.Counts.{OnlyLooks};
 ghost use Rattle.nr_serve.specs.Waits.{SleepsIf};
 ghost use Rattle.nr_idserve.specs.IdHands.{IsReadyFor, PostsFirst, PostsKept};
 ghost use Rattle.nr_idserve.specs.IdGets.{AwaitsRaise, GetsIdInTime, IsAwaited, MissesOnce, RequestsOnce, TriesOnce};
-ghost use Rattle.nr_idserve.specs.IdRings.{RingsFor};
+ghost use Rattle.nr_serve.specs.Rings.{RingsFor};
 ghost use Rattle.nr_idserve.specs.IdWaits.{GetsIdSleeping};
 
 use crate::answers::{GotId, Missed, TriedId};
@@ -52,7 +52,7 @@ fn post_or_keep<R: Wait>(
 
 // Posts the claim that is kept, which stays where the queue is full.
 #[inline(always)]
-#[tactic(auto, using(crate::proofs::IdRinging::rings_same))]
+#[tactic(auto, using(nr_serve::proofs::Ringing::rings_same))]
 fn post_kept<R: Wait>(rt: &R, service: &IdService, lobby: &mut Watched<'_>, hands: &mut IdHands)
     requires { IsReadyFor service.now.map service.now.queue hands.old }
     ensures ready { IsReadyFor service.now.map service.now.queue hands.new }
@@ -66,7 +66,7 @@ fn post_kept<R: Wait>(rt: &R, service: &IdService, lobby: &mut Watched<'_>, hand
 
 // Requests an id that has no way, unless a claim is kept, and posts the claim that is granted.
 #[inline(never)]
-#[tactic(auto, using(crate::proofs::IdRinging::rings_same))]
+#[tactic(auto, using(nr_serve::proofs::Ringing::rings_same))]
 fn request<R: Wait>(
     rt: &R,
     service: &IdService,

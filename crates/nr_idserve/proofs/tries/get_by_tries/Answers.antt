@@ -1,9 +1,8 @@
 use Rattle.std.proofs.Common.{◌∙◌, arith, refl}
 use Rattle.nr_serve.proofs.Later.{later_both}
-use Rattle.nr_idserve.specs.IdGets.{Getting}
+use Rattle.nr_serve.proofs.Ringing.{rings_both, rings_looks, rings_same}
 use Rattle.nr_idserve.proofs.IdWaiting.{sleeps_by_end, sleeps_by_none, sleeps_in_time, sleeps_late, slept_more}
 use Rattle.nr_idserve.proofs.IdWaiting.{slept_none}
-use Rattle.nr_idserve.proofs.IdRinging.{rings_both, rings_looks, rings_same}
 use Rattle.nr_idserve.proofs.tries.get_by_tries.Goals as goal
 
 pub loop-i-init : goal.loop-i-init
@@ -34,10 +33,7 @@ loop-i-preserved g c =
     record {
       ready = c.try_once.ensures.ready;
       slept =
-          slept_more c.args.service.now.queue.capacity c.args.id c.loop-i.i c.args.tries _
-          c.count_for-counted.result.count c.args.hands.now c.loop-i.hands c.try_once.new.hands c.in-Missed.missed
-          c.args.lobby.now c.loop-i.lobby c.count_for-counted.new.lobby c.sleep_if.new.lobby so_far.slept once.0
-          counted.looks.later (rw counted.id.1 at counted.found)
+          slept_more so_far.slept once.0 counted.looks.later (rw counted.id.1 at counted.found)
           (later_both _ _ _ c.try_once.ensures.rings.raises.later c.sleep_if.ensures.looks.later)
           (λ low. rw counted.id.1 at (c.in_ok-sleep_if.ensures.sleeps (omega (arith, low))));
       rows = once.1 ∙ so_far.rows;
@@ -50,11 +46,7 @@ loop-i-preserved g c =
 pub returns-in-Rows-clause-waits : goal.returns-in-Rows-clause-waits
 returns-in-Rows-clause-waits g c =
     let so_far = c.loop-i.invariant in
-    let get : Getting
-    = record { capacity = c.args.service.now.queue.capacity; id = c.args.id; tries = c.args.tries } in
-    sleeps_by_end g.R.RowRoom.shows get c.loop-i.i _ c.args.hands.now c.loop-i.hands c.try_once.new.hands
-    c.args.rows.now c.loop-i.rows c.try_once.new.rows c.args.lobby.now c.loop-i.lobby c.try_once.new.lobby
-    c.loop-i-test.true so_far.slept so_far.rows c.in-Rows.ensures.tries
+    sleeps_by_end g.R.RowRoom.shows so_far.slept c.loop-i-test.true so_far.rows c.in-Rows.ensures.tries
     (later_both _ _ _ c.count_for-counted.ensures.looks.later c.try_once.ensures.rings.raises.later)
 
 pub returns-in_err-sleep_if-clause-waits : goal.returns-in_err-sleep_if-clause-waits
@@ -62,11 +54,7 @@ returns-in_err-sleep_if-clause-waits g c =
     let so_far = c.loop-i.invariant in
     let counted = c.count_for-counted.ensures in
     let slept = c.in_err-sleep_if.ensures.slept in
-    let get : Getting
-    = record { capacity = c.args.service.now.queue.capacity; id = c.args.id; tries = c.args.tries } in
-    sleeps_late g.R.RowRoom.shows _ get c.loop-i.i _ c.args.hands.now c.loop-i.hands c.try_once.new.hands
-    c.args.rows.now c.try_once.new.rows c.in-Missed.missed c.from_residual.result c.args.lobby.now c.loop-i.lobby
-    c.sleep_if.new.lobby c.from_residual.ensures.1 (omega (arith, slept.0)) so_far.slept
+    sleeps_late g.R.RowRoom.shows so_far.slept _ c.from_residual.result c.from_residual.ensures.1 (omega (arith, slept.0))
     (c.in-Missed.ensures.tries.1 ∙ so_far.rows) (rw (counted.id.0, counted.hands) at slept.1)
     (later_both _ _ _ counted.looks.later
     (later_both _ _ _ c.try_once.ensures.rings.raises.later c.sleep_if.ensures.looks.later))
@@ -78,6 +66,5 @@ returns-in_err-sleep_if-clause-gets g c =
 
 pub returns-clause-waits : goal.returns-clause-waits
 returns-clause-waits g c =
-    sleeps_by_none g.R.RowRoom.shows _ c.loop-i.i _ c.args.hands.now c.loop-i.hands c.args.rows.now c.loop-i.rows
-    c.args.lobby.now c.loop-i.lobby (omega (arith, c.loop-i-test.false, c.loop-i.auto.i-end))
-    c.loop-i.invariant.slept c.loop-i.invariant.rows
+    sleeps_by_none g.R.RowRoom.shows c.loop-i.invariant.slept (omega (arith, c.loop-i-test.false, c.loop-i.auto.i-end))
+    c.loop-i.invariant.rows

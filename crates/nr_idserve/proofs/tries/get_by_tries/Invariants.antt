@@ -1,7 +1,7 @@
 use Rattle.std.proofs.Common.{◌≡◌}
 use Rattle.nr_ids.specs.Groups.{group_of}
+use Rattle.nr_serve.specs.Rings.{RingsFor}
 use Rattle.nr_idserve.specs.IdHands.{IsReadyFor}
-use Rattle.nr_idserve.specs.IdRings.{RingsFor}
 use Rattle.nr_idserve.proofs.IdWaiting.{Slept}
 use Rattle.nr_idserve.proofs.tries.get_by_tries.Given as goal
 
