@@ -3,7 +3,7 @@ use Rattle.std.proofs.lemmas.Grind.{common_steps, flat_map-append}
 use Rattle.std.proofs.Common.{◌≡◌, ℕ, zero, suc, ◌+◌, ◌*◌, min, List, [], ◌∷◌, ◌++◌, length, refl, sym, ap, ◌∙◌, arith}
 use Rattle.std.proofs.Common.{append_assoc, append-nil}
 use Rattle.std.specs.List.{flat_map, zip}
-use Rattle.std.proofs.lemmas.List.{length-append, length-map, map-append}
+use Rattle.std.proofs.lemmas.List.{length-append, map-append}
 use Rattle.std.proofs.lemmas.Slice.Zip.{length-zip}
 use Rattle.nr_words.specs.declared.layout.Layout.{Layout}
 use Rattle.nr_board.specs.Callers.{Caller}
@@ -96,14 +96,7 @@ module _ (sizes : Layout) where
   pub sets_count : (words counts : List ℕ) (a b : Caller) → (so : LoadsSets sizes words counts a b)
       → (length counts ≡ length words) × (b.steps ≡ a.steps + 2 * length words)
   sets_count words counts a b so =
-      let here : length so.loads ≡ length words
-      = sym (length-map so.loads both_places) ∙ ap length so.at ∙ length-map words (two_places sizes) in
-      let there : length so.loads ≡ length counts
-      = sym (length-map so.loads (λ (pair : Loaded × Loaded). pair.0.word)) ∙ ap length so.counts_are in
-      let all = flat_count both_loads 2 (λ pair. refl) so.loads in (
-        sym there ∙ here,
-        ap (λ (caller : Caller). caller.steps) so.made ∙ ap (λ (n : ℕ). a.steps + n) (all ∙ ap (λ (n : ℕ). 2 * n) here),
-      )
+      grind (arith, common_steps, flat_count both_loads 2 (λ pair. refl) so.loads)
 
   -- FURTHER LINES
   zip_more : (words counts : List ℕ) (word count : ℕ) → length words ≡ length counts
@@ -154,15 +147,11 @@ module _ (sizes : Layout) where
   pub lines_count : (words counts : List ℕ) (a b : Caller) → length counts ≡ length words
       → LoadsLines sizes words counts a b → b.steps ≡ a.steps + more_lines sizes.rows * length words
   lines_count words counts a b long so =
-      let here : length so.loads ≡ length (flat_map (further_places sizes) (zip words counts))
-      = sym (length-map so.loads (λ (load : Loaded). load.place)) ∙ ap length so.at in
-      let pairs : length (zip words counts) ≡ length words = omega (arith, length-zip words counts, long) in
       let all = flat_count (further_places sizes) (more_lines sizes.rows)
       (λ pair. line_count (begin_of sizes pair.0) (min (2 * min pair.1 sizes.rows) (more_of sizes pair.0))
       (more_lines sizes.rows))
       (zip words counts) in
-      ap (λ (caller : Caller). caller.steps) so.made
-      ∙ ap (λ (n : ℕ). a.steps + n) (here ∙ all ∙ ap (λ (n : ℕ). more_lines sizes.rows * n) pairs)
+      grind (arith, common_steps, length-zip, all)
 
   -- the loads for keys are so many steps
   pub ahead_count : (keys words : List ℕ) (a b c : Caller) → LoadsKeys keys words a b → LoadsOfSets sizes words b c

@@ -69,8 +69,7 @@ module _ {table : Table} {key : ℕ} {old new : MapSeat} {held : Held}
   -- a hand's, which let go what it held
   module _ {first between : Handed} (lets : LetsGo first between) (is : between.reader ≡ token old) where
     departed_loads : (held : Option ℕ) (marks : Marks) → (departed held marks).loads ≡ marks.loads
-    departed_loads None marks = refl
-    departed_loads (Some key) marks = refl
+    departed_loads held marks = grind arith
 
     rests : Rests (steps_to_depart first.key) first.reader (token old)
     rests = subst (Rests (steps_to_depart first.key) first.reader) is lets.rests

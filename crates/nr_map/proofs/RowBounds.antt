@@ -1,9 +1,8 @@
 -- The callers' calls bring row sets of the map, so no key has more rows than it may have.
-use Rattle.std.proofs.Common.{◌≡◌, ℕ, true, List, [], ◌∷◌, ⊎_elim}
+use Rattle.std.proofs.Common.{arith, ◌≡◌, ℕ, true, List, [], ◌∷◌, ⊎_elim}
 use Rattle.std.specs.List.{All}
 use Rattle.std.proofs.lemmas.List.Elements.{All-cons, All-nil}
 use Rattle.nr_model.specs.declared.calls.Call.{Call}
-use Rattle.nr_model.specs.declared.calls.Call.TheVariants as model
 use Rattle.nr_model.specs.Histories.{Entry}
 use Rattle.nr_model.specs.Laws.{BringsRowSet}
 use Rattle.nr_model.proofs.BoundLemmas.{rows_stay_within_bound_lem}
@@ -13,9 +12,7 @@ use Rattle.nr_map.specs.RowBounds.{RowsFitTheMap}
 
 -- a find and a request bring none
 reading_brings : (bound : ℕ) (call : Call) → is_reading call ≡ true → BringsRowSet bound call
-reading_brings bound (model.Fill key number rows) reads = absurd (cc)
-reading_brings bound (model.Replace key rows) reads = absurd (cc)
-reading_brings bound call reads = tt
+reading_brings bound call reads = grind arith
 
 callers_bring : (shape : Shape) (log : List Entry) → AreCallers shape log
     → All (λ entry. BringsRowSet shape.rows entry.call) log
