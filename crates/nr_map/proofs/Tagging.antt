@@ -57,17 +57,17 @@ module _ {table : Table} {key : ℕ} {old found : MapSeat} (read left last : Map
       → copied.me.0.marks ≡ read.me.0.marks → left ≡ copied
       → FindsTagged shows tag key (token old) before (token last) after tagged.Rows
   has_tag shows tag copied before after (rows, set) same shown others marks is = (
-        rows,
-        subst (λ (l : List Row). FindsRows (2 * length (tag ∷ rows) + 1) key l (token old) (token last)) set
-            (finds_rows (2 * length (tag ∷ rows)) (2 * length (tag ∷ rows) + 1) refl
-            (ap (λ (s : MapSeat). s.me.0.marks) is ∙ marks ∙ kept)
-            (subst (λ (s : MapSeat). Rests (2 * length (tag ∷ rows)) (token found) (token s)) (sym is)
-            (rests_both _ _ (2 * length (tag ∷ rows)) (token found) (token read) (token copied) steps first others))),
-        rw (same, set) at shown,
-        subst (IsRowSet (token old).table.shape.rows) set
-            (subst (λ (t : Table). IsRowSet t.shape.rows (rows_held found.me.0.role)) (sym own)
-            holds.answered.held_as.holds.holds.row_set),
-      )
+    rows,
+    subst (λ (l : List Row). FindsRows (2 * length (tag ∷ rows) + 1) key l (token old) (token last)) set
+        (finds_rows (2 * length (tag ∷ rows)) (2 * length (tag ∷ rows) + 1) refl
+        (ap (λ (s : MapSeat). s.me.0.marks) is ∙ marks ∙ kept)
+        (subst (λ (s : MapSeat). Rests (2 * length (tag ∷ rows)) (token found) (token s)) (sym is)
+        (rests_both _ _ (2 * length (tag ∷ rows)) (token found) (token read) (token copied) steps first others))),
+    rw (same, set) at shown,
+    subst (IsRowSet (token old).table.shape.rows) set
+        (subst (λ (t : Table). IsRowSet t.shape.rows (rows_held found.me.0.role)) (sym own)
+        holds.answered.held_as.holds.holds.row_set),
+  )
     where
       length_is : length (rows_held found.me.0.role) ≡ suc (length rows)
       length_is = ap (λ (l : List Row). length l) set

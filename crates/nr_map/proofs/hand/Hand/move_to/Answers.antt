@@ -5,7 +5,7 @@ use Rattle.nr_map.proofs.hand.Hand.move_to.Goals as goal
 use Rattle.nr_map.proofs.hand.Hand.move_to.Goals.{in_default-via-in-Some+else-kept-gt0, in_default-via-in_default}
 
 pub returns-in_default-clause-moves : goal.returns-in_default-clause-moves
-returns-in_default-clause-moves c = 
+returns-in_default-clause-moves c =
     let silent : c.self.inside.caller.seat.me.0.says ≡ 0 = elim c.in_default.branch [
       | in_default-via-in-Some+else-kept-gt0 w ↦
           (rw w.in-Some.is at c.self.invariant).holds.says ∙ omega (arith, w.if-kept-gt0.false)
