@@ -4,8 +4,7 @@ use Rattle.std.specs.List.{All}
 use Rattle.std.proofs.lemmas.List.Elements.{All-cons, All-nil}
 use Rattle.nr_model.specs.declared.calls.Call.{Call}
 use Rattle.nr_model.specs.Histories.{Entry}
-use Rattle.nr_model.specs.Laws.{BringsRowSet}
-use Rattle.nr_model.proofs.BoundLemmas.{rows_stay_within_bound_lem}
+use Rattle.nr_model.specs.Laws.{BringsRowSet, RowsStayWithinBound}
 use Rattle.nr_core.specs.declared.shape.Shape.{Shape}
 use Rattle.nr_board.specs.Entries.{AreCallers, is_reading}
 use Rattle.nr_map.specs.RowBounds.{RowsFitTheMap}
@@ -21,7 +20,6 @@ callers_bring shape (e ∷ log) callers = All-cons (λ (x : Entry). BringsRowSet
     (⊎_elim (λ writes. writes.1) (λ reads. reading_brings shape.rows e.call reads.1) callers.0.1)
     (callers_bring shape log callers.1)
 
-pub rows_fit_lem : RowsFitTheMap
-rows_fit_lem map log key number rows callers near filled =
-    rows_stay_within_bound_lem _ _ map.shape.first_number key number rows log (callers_bring map.shape log callers) near
-    filled
+pub rows_fit_lem : RowsStayWithinBound → RowsFitTheMap
+rows_fit_lem within map log key number rows callers near filled =
+    within _ _ map.shape.first_number key number rows log (callers_bring map.shape log callers) near filled

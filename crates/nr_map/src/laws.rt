@@ -214,7 +214,6 @@ pub fn nobody_holds_it()
 
 /// In the history that a token has seen, each filled key has at most as many rows as a key of its
 /// map may have, in ascending order: no fill brings more, and no update leaves more.
-#[tactic(auto, using(crate::proofs::RowBounds::rows_fit_lem))]
 pub fn rows_fit_the_map()
     ensures { RowsFitTheMap }
 {
