@@ -1,7 +1,7 @@
 -- A run goes on from one line to the next: what stands after some lines were answered, and what follows at each way in
 -- which the run can end.
 use Rattle.std.proofs.Common.{◌≡◌, ◌≢◌, ℕ, ◌+◌, ◌<◌, ◌≤◌, List, [], ◌∷◌, ◌++◌, length, take, Option, None, Some, Ok}
-use Rattle.std.proofs.Common.{Err, inl, inr, refl, sym, ap, subst, ◌∙◌, arith, append_assoc, append-nil, length-append}
+use Rattle.std.proofs.Common.{Err, inl, inr, refl, sym, ap, ◌∙◌, arith, append_assoc, append-nil, length-append}
 use Rattle.std.specs.Io.KnownBytes.{prepend_known, Consumes, Appends}
 use Rattle.std.proofs.KnownBytes.{Consumes-trans, Appends-trans}
 use Rattle.std.proofs.lemmas.List.{take_at}
@@ -47,23 +47,15 @@ module _ {S : Type 0} (answer : S → List ℕ → List ℕ × S) (start : S) wh
       → IsCutShort ((answer state line).0 ++ line_feed ∷ []) sent
       → IsCutShort (text answer start (done ++ line ∷ more)) (text answer start done ++ sent)
   text_cut state done line more sent same (rest, split, missing) =
-      let one = (answer state line).0 ++ line_feed ∷ [] in
       let others = text answer (answer state line).1 more in (
         rest ++ others,
-        text-append answer start done (line ∷ more)
-            ∙ ap (λ (s : S). text answer start done ++ text answer s (line ∷ more)) (sym same)
-            ∙ ap (λ l. text answer start done ++ (l ++ others)) split
-            ∙ ap (λ l. text answer start done ++ l) (append_assoc sent rest others)
-            ∙ sym (append_assoc (text answer start done) sent (rest ++ others)),
+        rw (text-append answer start done (line ∷ more), ← same, split) (simp append_assoc),
         rw (length-append rest others) (omega (arith, missing)),
       )
 
   text_more : (state : S) (done : List (List ℕ)) (line : List ℕ) → state ≡ after_lines answer start done
       → text answer start (done ++ line ∷ []) ≡ text answer start done ++ ((answer state line).0 ++ line_feed ∷ [])
-  text_more state done line same =
-      text-append answer start done (line ∷ [])
-      ∙ ap (λ (s : S). text answer start done ++ text answer s (line ∷ [])) (sym same)
-      ∙ ap (λ l. text answer start done ++ l) (append-nil ((answer state line).0 ++ line_feed ∷ []))
+  text_more state done line same = rw (text-append answer start done (line ∷ []), ← same, append-nil)
 
   module _ (limit : ℕ) (old new : Input) (had at left held holds : Option (List ℕ)) (state : S) (lines_left : ℕ)
       (line : Line) (so_far : Answered limit old had at held holds state lines_left) where
@@ -87,17 +79,14 @@ module _ {S : Type 0} (answer : S → List ℕ → List ℕ × S) (start : S) wh
           text answer start so_far.done,
           whole_none got none consumed,
           so_far.appends,
-          ap (text answer start)
-              (sym
-              (so_far.ended got ∙ ap (λ l. so_far.done ++ l) (ended_lines-none got no_feed)
-              ∙ append-nil so_far.done)),
+          rw (so_far.ended got, ended_lines-none got no_feed, append-nil),
         )
     ends_reading faults.TooMuch (got, consumed, told) =
         let (bytes, no_feed, all, last, one, split, none) = told in
         let cut : take limit (so_far.taken ++ got) ≡ so_far.taken ++ bytes =
-        ap (λ l. take limit (so_far.taken ++ l)) split ∙ ap (take limit) (sym (append_assoc so_far.taken bytes last))
-        ∙ take_at (so_far.taken ++ bytes) last limit
-        (length-append so_far.taken bytes ∙ omega (arith, so_far.count, all)) in
+        rw (split, ← append_assoc)
+        (take_at (so_far.taken ++ bytes) last limit
+        (length-append so_far.taken bytes ∙ omega (arith, so_far.count, all))) in
         let long : limit < length (so_far.taken ++ got) =
         rw (length-append so_far.taken got, split, length-append bytes last)
         (omega (arith, so_far.count, all, one)) in (
@@ -107,10 +96,7 @@ module _ {S : Type 0} (answer : S → List ℕ → List ℕ × S) (start : S) wh
           so_far.appends,
           (
             long,
-            ap (text answer start)
-                (sym
-                (ap ended_lines cut ∙ so_far.ended bytes
-                ∙ ap (λ l. so_far.done ++ l) (ended_lines-none bytes no_feed) ∙ append-nil so_far.done)),
+            rw (cut, so_far.ended bytes, ended_lines-none bytes no_feed, append-nil),
           ),
         )
     ends_reading faults.Write (got, consumed, told) = absurd told
@@ -120,16 +106,15 @@ module _ {S : Type 0} (answer : S → List ℕ → List ℕ × S) (start : S) wh
     pub ends_empty : (x : Unit {0}) → TakesLine old new at left line (Ok ends.NoLine)
         → Runs (text answer start) limit (Ok x) had left held holds
     ends_empty x (got, consumed, told) =
-        let (none, count, spent) = told in
-        let same : so_far.taken ++ got ≡ so_far.taken ++ [] = ap (λ l. so_far.taken ++ l) none in (
+        let (none, count, spent) = told in (
           so_far.taken ++ got,
           text answer start so_far.done,
           whole_none got spent.0 consumed,
           so_far.appends,
           (
-            rw (same, append-nil so_far.taken) (omega (arith, so_far.count)),
+            rw (none, append-nil so_far.taken) (omega (arith, so_far.count)),
             spent.1,
-            ap (text answer start) (sym (ap lines same ∙ so_far.cut [] ∙ append-nil so_far.done)),
+            rw (none, so_far.cut [], append-nil),
           ),
         )
 
@@ -139,25 +124,19 @@ module _ {S : Type 0} (answer : S → List ℕ → List ℕ × S) (start : S) wh
         × ReadWhole taken left (so_far.done ++ bytes ∷ more)
     read_whole ends.NoLine some line_taken = absurd (some refl)
     read_whole ends.LineFeed some (got, consumed, told) =
-        let (bytes, no_feed, split, held, count) = told in
-        let same : (so_far.taken ++ got) ++ pending_bytes new ≡ so_far.taken ++ (bytes ++ line_feed ∷ pending_bytes new)
-        =
-        append_assoc so_far.taken got (pending_bytes new) ∙ ap (λ l. so_far.taken ++ (l ++ pending_bytes new)) split
-        ∙ ap (λ l. so_far.taken ++ l) (append_assoc bytes (line_feed ∷ []) (pending_bytes new)) in
-        let cut
-        = ap ended_lines same ∙ so_far.ended (bytes ++ line_feed ∷ pending_bytes new)
-        ∙ ap (λ l. so_far.done ++ l) (ended_lines-ended bytes (pending_bytes new) no_feed) in (
+        let (bytes, no_feed, split, held, count) = told in (
           (so_far.taken ++ got) ++ pending_bytes new,
           bytes,
           ended_lines (pending_bytes new),
           whole got consumed,
           held,
-          inl (sym cut),
+          inl (rw split (simp append_assoc (rw (so_far.ended, ended_lines-ended bytes (pending_bytes new) no_feed)))),
         )
     read_whole ends.InputEnd some (got, consumed, told) =
         let (no_feed, long, held, count, spent) = told in
-        let cut = so_far.cut got ∙ ap (λ l. so_far.done ++ l) (lines-some got no_feed long) in
-        (so_far.taken ++ got, got, [], whole_none got spent.0 consumed, held, inr (spent.1, sym cut))
+        let cut : so_far.done ++ got ∷ [] ≡ lines (so_far.taken ++ got)
+        = rw (so_far.cut, lines-some got no_feed long) in
+        (so_far.taken ++ got, got, [], whole_none got spent.0 consumed, held, inr (spent.1, cut))
 
     -- no memory for a line's reply
     pub ends_answering : (end : LineEnd) → end ≢ ends.NoLine → TakesLine old new at left line (Ok end)
@@ -175,9 +154,7 @@ module _ {S : Type 0} (answer : S → List ℕ → List ℕ × S) (start : S) wh
           → Runs (text answer start) limit (Err fault) had left held last
       ends_sending end faults.Write some line_taken (sent, cut, appends) =
           let (taken, bytes, more, consumed, line_held, read) = read_whole end some line_taken in
-          let cut_too
-          = subst (λ (r : List ℕ). IsCutShort (r ++ line_feed ∷ []) sent)
-          (sym (ap (λ p. p.0) (gives bytes line_held))) cut in (
+          let cut_too : IsCutShort ((answer state bytes).0 ++ line_feed ∷ []) sent = rw (gives bytes line_held) cut in (
             taken,
             text answer start so_far.done ++ sent,
             consumed,
@@ -202,11 +179,13 @@ module _ {S : Type 0} (answer : S → List ℕ → List ℕ × S) (start : S) wh
         ends_whole x (got, consumed, told) =
             let (no_feed, long, line_held, count, spent) = told in
             let one = reply ++ line_feed ∷ [] in
-            let cut = so_far.cut got ∙ ap (λ l. so_far.done ++ l) (lines-some got no_feed long) in
             let written : text answer start (lines (so_far.taken ++ got)) ≡ text answer start so_far.done ++ one =
-            ap (text answer start) cut ∙ text_more state so_far.done got so_far.state_is
-            ∙ ap (λ (r : List ℕ). text answer start so_far.done ++ (r ++ line_feed ∷ []))
-            (ap (λ p. p.0) (gives got line_held)) in (
+            rw (
+              so_far.cut,
+              lines-some got no_feed long,
+              text_more state so_far.done got so_far.state_is,
+              gives got line_held,
+            ) in (
               so_far.taken ++ got,
               text answer start so_far.done ++ one,
               whole_none got spent.0 consumed,
@@ -220,32 +199,18 @@ module _ {S : Type 0} (answer : S → List ℕ → List ℕ × S) (start : S) wh
         answered_feed new_left (got, consumed, told) falls =
             let (bytes, no_feed, split, line_held, count) = told in
             let one = reply ++ line_feed ∷ [] in
-            let same : (more : List ℕ) → (so_far.taken ++ got) ++ more ≡ so_far.taken ++ (bytes ++ line_feed ∷ more) =
-            λ more. append_assoc so_far.taken got more ∙ ap (λ l. so_far.taken ++ (l ++ more)) split
-            ∙ ap (λ l. so_far.taken ++ l) (append_assoc bytes (line_feed ∷ []) more) in
             let written : text answer start (so_far.done ++ bytes ∷ []) ≡ text answer start so_far.done ++ one =
-            text_more state so_far.done bytes so_far.state_is
-            ∙ ap (λ (r : List ℕ). text answer start so_far.done ++ (r ++ line_feed ∷ []))
-            (ap (λ p. p.0) (gives bytes line_held)) in
+            rw (text_more state so_far.done bytes so_far.state_is, gives bytes line_held) in
             let some : 0 < length got = rw (split, length-append bytes (line_feed ∷ [])) (omega arith) in
             record {
               taken = so_far.taken ++ got;
               done = so_far.done ++ bytes ∷ [];
               consumes = Consumes-trans _ _ _ so_far.taken got so_far.consumes consumed;
               appends =
-                  subst (Appends _ last) (sym written)
-                  (Appends-trans _ _ _ (text answer start so_far.done) one so_far.appends appends);
-              state_is =
-                  sym
-                  (after-append answer start so_far.done (bytes ∷ [])
-                  ∙ ap (λ (s : S). (answer s bytes).1) (sym so_far.state_is)
-                  ∙ ap (λ p. p.1) (gives bytes line_held));
-              ended = λ more. ap ended_lines (same more) ∙ so_far.ended (bytes ++ line_feed ∷ more)
-                  ∙ ap (λ l. so_far.done ++ l) (ended_lines-ended bytes more no_feed)
-                  ∙ sym (append_assoc so_far.done (bytes ∷ []) (ended_lines more));
-              cut = λ more. ap lines (same more) ∙ so_far.cut (bytes ++ line_feed ∷ more)
-                  ∙ ap (λ l. so_far.done ++ l) (lines-ended bytes more no_feed)
-                  ∙ sym (append_assoc so_far.done (bytes ∷ []) (lines more));
+                  rw written (Appends-trans _ _ _ (text answer start so_far.done) one so_far.appends appends);
+              state_is = rw (after-append, ← so_far.state_is) (sym (ap (λ p. p.1) (gives bytes line_held)));
+              ended = λ more. rw split (simp append_assoc (rw (so_far.ended, ended_lines-ended bytes more no_feed)));
+              cut = λ more. rw split (simp append_assoc (rw (so_far.cut, lines-ended bytes more no_feed)));
               count = rw (length-append so_far.taken got) (omega (arith, so_far.count, count));
               counters = rw (length-append so_far.taken got) (omega (arith, so_far.counters, some, falls));
             }
