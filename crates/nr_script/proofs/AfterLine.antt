@@ -41,9 +41,13 @@ module _ {Z : Type 0} (laws : Laws) (table : Table) (w0 : Caller) (hands : Vec H
       let few = subst (λ (s : MapState). at < length s.pins) (sym shows) low in
       omega (arith, length-map hands.items pin_of)
 
+  -- so it is where the hands lie in the list again
+  abbrev Ended : MapOutcome → Type 0
+  Ended outcome = Ends table w' (with_items (with_item hands at x) hands').items outcome answer
+
   ends : (line : MapState → MapOutcome) → Gathered at w0 (set hands.items at x) w' hands'
       → Ends table w' hands' (line (shown_by table w0 hands.items)) answer
-      → Ends table w' (with_items (with_item hands at x) hands').items (line now) answer
+      → Ended (line now)
   ends line g said =
       subst (λ (l : List Handed). Ends table w' l (line now) answer)
       (sym
@@ -74,8 +78,7 @@ module _ {Z : Type 0} (laws : Laws) (table : Table) (w0 : Caller) (hands : Vec H
       rw items at noted
 
   pub call_ends : (w : Caller) (call : Call) → NotesFor w0 w result → Gathered at w slice w' hands'
-      → MakesCall w0.seen call old x result
-      → Ends table w' (with_items (with_item hands at x) hands').items (answer_of_reader now at call) answer
+      → MakesCall w0.seen call old x result → Ended (answer_of_reader now at call)
   call_ends w call notes gathered made =
       let g = after_note w notes gathered in
       ends (λ s. answer_of_reader s at call) g
@@ -83,8 +86,7 @@ module _ {Z : Type 0} (laws : Laws) (table : Table) (w0 : Caller) (hands : Vec H
 
   pub pin_ends : (w : Caller) (key : ℕ) → key < key_count now.map → NotesFor w0 w result
       → Gathered at w slice w' hands' → MakesPin w0.seen key old x result
-      → Ends table w' (with_items (with_item hands at x) hands').items
-      (answer_pinning now at key (state_of now.map key)) answer
+      → Ended (answer_pinning now at key (state_of now.map key))
   pin_ends w key near notes gathered made =
       let g = after_note w notes gathered in
       ends (λ s. answer_pinning s at key (state_of s.map key)) g
@@ -93,22 +95,20 @@ module _ {Z : Type 0} (laws : Laws) (table : Table) (w0 : Caller) (hands : Vec H
 
   module _ (gathered : Gathered at w0 slice w' hands') where
     pub again_ends : (key : ℕ) → key < key_count now.map → FindsAgain key old x result
-        → Ends table w' (with_items (with_item hands at x) hands').items (answer_again now at key) answer
+        → Ended (answer_again now at key)
     again_ends key near made =
         let g = rw items at gathered in
         ends (λ s. answer_again s at key) g
         (says_again laws table w0 hands.items alone at old x inside item w' hands' g key answer
         (key_inside table w0 hands.items now key shows near) (rw was at made))
 
-    pub show_ends : ShowsPin old x result
-        → Ends table w' (with_items (with_item hands at x) hands').items (answer_show now at) answer
+    pub show_ends : ShowsPin old x result → Ended (answer_show now at)
     show_ends made =
         let g = rw items at gathered in
         ends (λ s. answer_show s at) g
         (says_show laws table w0 hands.items alone at old x inside item w' hands' g answer (rw was at made))
 
-    pub unpin_ends : Unpins old x result
-        → Ends table w' (with_items (with_item hands at x) hands').items (answer_unpin now at) answer
+    pub unpin_ends : Unpins old x result → Ended (answer_unpin now at)
     unpin_ends made =
         let g = rw items at gathered in
         ends (λ s. answer_unpin s at) g

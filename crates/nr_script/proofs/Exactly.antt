@@ -1,5 +1,5 @@
 -- The history is exactly that of the calls that were made.
-use Rattle.std.proofs.Common.{◌≡◌, ◌≢◌, ◌<◌, ◌≤◌, ℕ, suc, ◌+◌, List, [], ◌∷◌, ◌++◌, Bool, cond, ◌==◌, length, map, take}
+use Rattle.std.proofs.Common.{◌≡◌, ◌≢◌, ◌<◌, ◌≤◌, ℕ, suc, ◌+◌, List, [], ◌∷◌, ◌++◌, cond, ◌==◌, length, map, take}
 use Rattle.std.proofs.Common.{drop, get_or, refl, sym, ap, ◌∙◌, subst, arith, eq-eqb, ne_eqb}
 use Rattle.std.proofs.lemmas.List.{append-nil, append_cancel_left, get_or-map, length-map, take-append-drop}
 use Rattle.std.proofs.lemmas.List.Elements.{filter-append}
@@ -8,11 +8,10 @@ use Rattle.std.proofs.Math.Seq.{take-append_seam}
 use Rattle.std.specs.List.{count_by}
 use mathlib.Core.Logic.{dite}
 use native.Mathlib.Decide.{ℕ_discrete}
-use Rattle.nr_model.specs.Histories.{Entry, IsLegal, entries_of}
+use Rattle.nr_model.specs.Histories.{Entry, entries_of}
 use Rattle.nr_model.specs.Laws.{LegalBegins}
 use Rattle.nr_board.specs.Callers.{Caller, Table, map_at_opening}
 use Rattle.nr_board.proofs.Entries.{callers_before}
-use Rattle.nr_board.specs.Entries.{AreCallers}
 use Rattle.nr_map.specs.Rounds.{EntriesAreCallers}
 use Rattle.nr_board.specs.Rule.{StartsWith}
 use Rattle.nr_map.specs.Hands.{Handed, idle}
@@ -22,13 +21,11 @@ use Rattle.nr_script.specs.Alone.{HasJust, IsHand, calls_of, log_of, made, one_e
 
 pub entries_own : (entry : Entry) (log : List Entry) (caller : ℕ) → entry.caller ≡ caller
     → entries_of (entry ∷ log) caller ≡ entry ∷ entries_of log caller
-entries_own entry log caller is =
-    ap (λ (b : Bool). cond b (entry ∷ entries_of log caller) (entries_of log caller)) (eq-eqb entry.caller caller is)
+entries_own entry log caller is = rw (eq-eqb entry.caller caller is)
 
 pub entries_other : (entry : Entry) (log : List Entry) (caller : ℕ) → entry.caller ≢ caller
     → entries_of (entry ∷ log) caller ≡ entries_of log caller
-entries_other entry log caller isnt =
-    ap (λ (b : Bool). cond b (entry ∷ entries_of log caller) (entries_of log caller)) (ne_eqb entry.caller caller isnt)
+entries_other entry log caller isnt = rw (ne_eqb entry.caller caller isnt)
 
 abbrev head_or : Entry → List Entry → Entry
 head_or d [] = d
@@ -103,10 +100,10 @@ as_many entries begins table w hands log own zero_is count places sound goes jus
       own = ap (entries_of log) zero_is ∙ just 0;
       legal =
           begins (map_at_opening w.table) log goes.rest
-          (subst (λ (l : List Entry). IsLegal (map_at_opening w.table) l) goes.is sound.legal);
+          (rw goes.is at sound.legal);
       callers =
           callers_before w.table.shape log goes.rest
-          (subst (λ (l : List Entry). AreCallers w.table.shape l) goes.is sound.callers);
+          (rw goes.is at sound.callers);
       count = size ∙ count ∙ ap (λ (t : Table). t.shape.readers) (sym own);
       numbers = λ at other low.
           ap (λ (r : Caller). r.number) (get_or-map caller_in hands at (idle other) other (inside at low))

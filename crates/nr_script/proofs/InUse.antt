@@ -3,7 +3,6 @@ use Rattle.std.proofs.Common.{◌≡◌, ◌<◌, ℕ, suc, zero, ◌+◌, List,
 use Rattle.std.proofs.Common.{ap, ◌∙◌, subst, arith, eq-eqb, ne_eqb, Option, None, Some, option_map, IsSome}
 use mathlib.Core.Option.{some, some-injective, some-ne-none}
 use lib.ListN.{get_elem?}
-use Rattle.std.specs.List.{cons_option}
 use Rattle.nr_model.specs.Histories.{Entry}
 use Rattle.nr_model.specs.Strays.{keyed, strays}
 use Rattle.nr_model.specs.Maps.{filled_count}
@@ -33,9 +32,7 @@ pub pins_same : (hands : List Handed)
     → pinned_puts (map pin_of hands) ≡ pins (map how_of hands)
 pins_same [] fits = refl
 pins_same (s ∷ hands) fits =
-    ap (λ (o : Option ℕ). cons_option o (pinned_puts (map pin_of hands))) (pin_same s s.key (fits 0 s (omega arith)))
-    ∙ ap (λ (l : List ℕ). cons_option (pinned_put (how_of s)) l)
-    (pins_same hands (λ at other low. fits (suc at) other (omega arith)))
+    rw (pin_same s s.key (fits 0 s (omega arith)), pins_same hands (λ at other low. fits (suc at) other (omega arith)))
 
 or_is : (l : List Handed) (i : ℕ) (a d : Handed) → get_elem? l i ≡ some a → get_or l i d ≡ a
 or_is [] i a d e = absurd (some-ne-none a (sym e))

@@ -14,8 +14,6 @@ use Rattle.nr_model.specs.Histories.{Entry, IsLegal, entries_of, is_done}
 use Rattle.nr_model.specs.Maps.{reply_to}
 use Rattle.nr_core.specs.declared.calls.NoSlot.{NoSlot}
 use Rattle.nr_core.specs.Story.{entry, map_after}
-use Rattle.nr_core.specs.declared.places.Retired.{Retired}
-use Rattle.nr_core.specs.Marks.{Marks, Past}
 use Rattle.nr_core.specs.MarkLaws.{slots_in_use}
 use Rattle.nr_core.specs.Pasts.{AllCurrent, AllReaders}
 use Rattle.nr_board.specs.WriterAnswers.{HasNoSlot, Publishes}
@@ -72,10 +70,7 @@ module _ (table : Table) (w0 : Caller) (hands0 : List Handed) (alone : IsAlone t
     grown = elim [
       | zero ↦ g.mine ∙ ap (λ (l : List Entry). w0.mine ++ l) (sym are.his)
       | (suc at) ↦
-          sym
-          (ap (λ (l : List Entry). calls_of w0.mine (map mine_of hands0) (suc at) ++ l)
-          (are.others (suc at) (omega arith))
-          ∙ append-nil (calls_of w0.mine (map mine_of hands0) (suc at)))
+          rw (are.others (suc at) (omega arith), append-nil)
     ];
     others = λ at apart. are.others (suc at) (omega arith);
   }
@@ -88,9 +83,8 @@ module _ (table : Table) (w0 : Caller) (hands0 : List Handed) (alone : IsAlone t
         → ((k : ℕ) (other : Handed) → k < length hands0 → P k (get_or hands0 k other)) → P at x
         → (k : ℕ) (other : Handed) → k < length (set hands0 at x) → P k (get_or (set hands0 at x) k other)
     placed P all here k other inside = dite (ℕ_discrete k at)
-        (λ is. subst (λ (n : ℕ). P n (get_or (set hands0 at x) n other)) (sym is)
-        (subst (λ (s : Handed). P at s) (sym (get_or-set_same hands0 at x other low)) here))
-        (λ isnt. subst (λ (s : Handed). P k s) (sym (get_or-set_other hands0 at k x other isnt))
+        (λ is. rw (is, get_or-set_same hands0 at x other low) here)
+        (λ isnt. rw (get_or-set_other hands0 at k x other isnt)
         (all k other (omega (arith, length-set hands0 at x, inside))))
 
     calls_now : (k : ℕ)
@@ -103,24 +97,11 @@ module _ (table : Table) (w0 : Caller) (hands0 : List Handed) (alone : IsAlone t
         ≡ calls_of w0.mine (map mine_of hands0) caller ++ entries_of es caller
     grown zero = sym (ap (λ (l : List Entry). w0.mine ++ l) (are.others 0 (omega arith)) ∙ append-nil w0.mine)
     grown (suc k) = dite (ℕ_discrete k at)
-        (λ is.
-        let here : calls_of w0.mine (map mine_of (set hands0 at x)) (suc at)
-        ≡ calls_of w0.mine (map mine_of hands0) (suc at) ++ entries_of es (suc at)
-        =
-        calls_now at
-        ∙ get_or-set_same (map mine_of hands0) at (mine_of x) [] (omega (arith, length-map hands0 mine_of, low))
-        ∙ mine
-        ∙ ap (λ (l : List Entry). l ++ es) (sym (calls_at w0.mine hands0 at x low))
-        ∙ ap (λ (l : List Entry). calls_of w0.mine (map mine_of hands0) (suc at) ++ l) (sym are.his) in
-        subst
-        (λ (n : ℕ). calls_of w0.mine (map mine_of (set hands0 at x)) (suc n)
-        ≡ calls_of w0.mine (map mine_of hands0) (suc n) ++ entries_of es (suc n))
-        (sym is) here)
-        (λ isnt. calls_now k ∙ get_or-set_other (map mine_of hands0) at k (mine_of x) [] isnt
-        ∙ sym
-        (ap (λ (l : List Entry). calls_of w0.mine (map mine_of hands0) (suc k) ++ l)
-        (are.others (suc k) (omega arith))
-        ∙ append-nil (calls_of w0.mine (map mine_of hands0) (suc k))))
+        (λ is. rw (is, calls_now at, are.his)
+        (get_or-set_same (map mine_of hands0) at (mine_of x) [] (omega (arith, length-map hands0 mine_of, low))
+        ∙ mine ∙ ap (λ (l : List Entry). l ++ es) (sym (calls_at w0.mine hands0 at x low))))
+        (λ isnt. rw (calls_now k, are.others (suc k) (omega arith), append-nil)
+        (get_or-set_other (map mine_of hands0) at k (mine_of x) [] isnt))
 
     pub reader_line : IsLine table w0 hands0 w0 (set hands0 at x) at es
     reader_line = record {
@@ -208,19 +189,16 @@ module _ (laws : Laws) (table : Table) (w0 : Caller) (hands0 : List Handed) (cal
   only = g.stays.only
 
   current_mid : AllCurrent g.mid.retired g.mid.marks (map how_of hands0)
-  current_mid = subst (λ (l : List Past). AllCurrent g.mid.retired g.mid.marks l) s.pasts
-      (subst (λ (l : List Retired). AllCurrent l g.mid.marks (map how_of hands')) g.round.stays.only.retired
-      (subst (λ (m : Marks). AllCurrent w'.retired m (map how_of hands')) g.round.stays.only.marks
-      (all_current table w' hands' s.alone)))
+  current_mid =
+      rw (g.round.stays.only.marks, g.round.stays.only.retired, s.pasts) at (all_current table w' hands' s.alone)
 
   pub done_full : (steps : ℕ) (rows : List Row) → Publishes steps call rows w0 w → w0.seen ≡ log
       → is_full the_state ≡ false
   done_full steps rows puts same =
       not_full table w0 hands0 alone log
-      (subst (λ (t : Table). slots_in_use t.shape log (map how_of hands0) < t.shape.slots) alone.stands.own
-      (subst (λ (l : List Entry). slots_in_use w0.table.shape l (map how_of hands0) < w0.table.shape.slots) same
+      (rw (alone.stands.own, same) at
       (laws.done steps call rows w0 w g.mid (map how_of hands0)
-      (record { lists = alone.sound.lists; current = all_current table w0 hands0 alone }) puts only current_mid)))
+      (record { lists = alone.sound.lists; current = all_current table w0 hands0 alone }) puts only current_mid))
 
   pub lacking_full : (steps : ℕ) (counts : NoSlot) → HasNoSlot steps call w0 w counts → g.mid.seen ≡ log
       → g.mid.table ≡ table → is_full the_state ≡ true
@@ -238,17 +216,14 @@ module _ (laws : Laws) (table : Table) (w0 : Caller) (hands0 : List Handed) (cal
   pub had_just : (steps : ℕ) → Grows steps es w0 w → 0 < length es → w0.seen ≡ log
   had_just steps grows some =
       let before = log_begins w0 hands0 in let after = seen_more steps w0 es w grows in let later = g.stays.seen in
-      let none : length before.rest ≡ 0 = omega (
+      let none : length before.rest ≡ 0
+      = omega (
         arith,
-        ap (λ (l : List Entry). length l) before.is,
-        length-append log before.rest,
-        ap (λ (l : List Entry). length l) grows.seen,
-        length-append (w0.seen ++ grows.between) es,
-        length-append w0.seen grows.between,
-        ap (λ (l : List Entry). length l) later.is,
-        length-append w.seen later.rest,
-        ap (λ (l : List Entry). length l) s.mid_log,
-        length-append log es,
+        length-append {A = Entry},
+        ap length before.is,
+        ap length grows.seen,
+        ap length later.is,
+        ap length s.mid_log,
       ) in
       before.is ∙ ap (λ (l : List Entry). log ++ l) (nil_from_length before.rest none) ∙ append-nil log
 
@@ -297,10 +272,7 @@ module _ (laws : Laws) (table : Table) (w0 : Caller) (hands0 : List Handed) (cal
       (subst (λ (l : List Entry). StartsWith l w.seen) mid_is g.stays.seen) in
       let tables : w.table ≡ table = grows.table ∙ alone.stands.own in
       let done : is_done (reply_to (map_after table.shape log0) call) ≡ true =
-      ap is_done
-      (ap (λ (t : Table). reply_to (map_after t.shape log0) call) (sym tables)
-      ∙ ap (λ (l : List Entry). reply_to (map_after w.table.shape l) call) (sym seen_is)
-      ∙ made.lacks.lacks.would_be_done) in
+      ap is_done (rw (tables, seen_is) at made.lacks.lacks.would_be_done) in
       let all : is_full (shown_by table w0 hands0) ≡ true
       = lacking_full laws table w0 hands0 call w w' hands' alone
       [] g s made.steps made.counts made.lacks mid_is (g.stays.only.table ∙ tables) in

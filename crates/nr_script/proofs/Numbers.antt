@@ -1,6 +1,6 @@
 -- The writer's list has each key's ticket number after the history of the calls, as readers' calls change none.
 use Rattle.std.proofs.Common.{◌≡◌, ◌<◌, ◌≤◌, ℕ, ◌+◌, List, [], ◌∷◌, ◌++◌, Bool, true, false, cond, ◌==◌, refl, sym, ap}
-use Rattle.std.proofs.Common.{◌∙◌, subst, arith, ⊎_elim}
+use Rattle.std.proofs.Common.{◌∙◌, arith, ⊎_elim}
 use Rattle.std.specs.Prelude.{◌&&◌}
 use Rattle.std.proofs.lemmas.List.{append-nil, append_cancel_left}
 use Rattle.std.proofs.lemmas.List.Elements.{filter-append}
@@ -59,15 +59,11 @@ pub number_is : NumbersCountCancels → LegalBegins → (table : Table) (w : Cal
     → number_of (state_of (map_seen w) key) ≡ number_of (state_of (map_after table.shape (log_of w hands)) key)
 number_is counts begins table w hands alone key low =
     let shape = table.shape in let log : List Entry = log_of w hands in let goes = log_begins w hands in
-    let legal : IsLegal (map_at_opening table) w.seen
-    = subst (λ (t : Table). IsLegal (map_at_opening t) w.seen) alone.stands.own alone.sound.legal in
+    let legal : IsLegal (map_at_opening table) w.seen = rw alone.stands.own at alone.sound.legal in
     let legal' : IsLegal (map_at_opening table) log
-    = begins (map_at_opening table) log goes.rest
-    (subst (λ (l : List Entry). IsLegal (map_at_opening table) l) goes.is legal) in
+    = begins (map_at_opening table) log goes.rest (rw goes.is at legal) in
     let callers : AreCallers shape goes.rest
-    = callers_of_more shape log goes.rest
-    (subst (λ (l : List Entry). AreCallers shape l) goes.is
-    (subst (λ (t : Table). AreCallers t.shape w.seen) alone.stands.own alone.sound.callers)) in
+    = callers_of_more shape log goes.rest (rw (alone.stands.own, goes.is) at alone.sound.callers) in
     let his : entries_of w.seen 0 ≡ w.mine = ap (entries_of w.seen) (sym alone.stands.number) ∙ alone.sound.own in
     let none : entries_of goes.rest 0 ≡ [] = append_cancel_left w.mine (entries_of goes.rest 0) []
     (ap (λ (l : List Entry). l ++ entries_of goes.rest 0) (sym (alone.stands.just 0))

@@ -1,5 +1,5 @@
 -- Lines of a reader, and what they are answered.
-use Rattle.std.proofs.Common.{◌≡◌, ◌≢◌, ◌<◌, ◌⊎◌, inl, inr, ⊎_elim, ℕ, suc, List, [], ◌∷◌, ◌++◌, cond, ◌==◌, length}
+use Rattle.std.proofs.Common.{◌≡◌, ◌≢◌, ◌<◌, ◌⊎◌, inl, inr, ⊎_elim, ℕ, suc, List, [], ◌∷◌, ◌++◌, ◌==◌, length}
 use Rattle.std.proofs.Common.{map, get_or, set, refl, sym, ap, ◌∙◌, subst, arith, eq-eqb, ne_eqb, length-append, Ok}
 use Rattle.std.proofs.Common.{Option, None, Some, IsSome}
 use Rattle.std.proofs.lemmas.List.{append-nil, nil_from_length, append_cancel_left, get_or_default, get_or-map}
@@ -26,7 +26,7 @@ use Rattle.nr_script.specs.Answers as answers
 use Rattle.nr_map.specs.Hands.{Handed}
 use Rattle.nr_script.specs.MapState.{MapOutcome, Pin, MapState, answer_again, answer_call, answer_pin, find_again}
 use Rattle.nr_script.specs.MapState.{pin_at, pins_after, with_pin, without_pin}
-use Rattle.nr_script.specs.Hands.{Calls, FindsAgain, KeepsPin, HandHoldsItsPin, HoldsItsPin, MakesCall, MakesPin}
+use Rattle.nr_script.specs.Hands.{Calls, FindsAgain, KeepsPin, HandHoldsItsPin, MakesCall, MakesPin}
 use Rattle.nr_script.specs.Hands.{ShowsPin, Unpins, mine_of, pin_of}
 use Rattle.nr_script.specs.Rounds.{Gathered}
 use Rattle.nr_script.specs.Alone.{IsAlone, Laws, log_of, shown_by, shown_after}
@@ -75,16 +75,14 @@ found_hole (states.Rows n rows) stood at key is = absurd (cc)
 -- what a find by a pin is answered
 found_rows : (n : ℕ) (rows : List Row) (put : ℕ) (pin : Pin) → put ≡ pin.put
     → find_again (states.Rows n rows) put pin ≡ answers.Reply (reply.Rows rows)
-found_rows n rows put pin same =
-    ap (λ b. cond b (answers.Reply (reply.Rows rows)) answers.Other) (eq-eqb put pin.put same)
+found_rows n rows put pin same = rw (eq-eqb put pin.put same)
 
 found_other : (state : KeyState) (put : ℕ) (pin : Pin)
     → ((n : ℕ) (rows : List Row) → state ≡ states.Rows n rows → put ≢ pin.put)
     → find_again state put pin ≡ answers.Other
 found_other (states.Hole n) put pin no_put = refl
 found_other (states.Asked n) put pin no_put = refl
-found_other (states.Rows n rows) put pin no_put =
-    ap (λ b. cond b (answers.Reply (reply.Rows rows)) answers.Other) (ne_eqb put pin.put (no_put n rows refl))
+found_other (states.Rows n rows) put pin no_put = rw (ne_eqb put pin.put (no_put n rows refl))
 
 map_same : (m : PartialMap) (key : ℕ) → next m (model.Find key) ≡ m
 map_same m key = λ j. record { bound = m.bound; states = set-get_or m.states key (states.Hole 0) j }
@@ -120,10 +118,7 @@ module _ (laws : Laws) (table : Table) (w0 : Caller) (hands0 : List Handed) (alo
   again_by : (key : ℕ) {pin : Pin} → pin_at stood at ≡ Some pin
       → answer_again stood at key ≡ (Ok (find_again (state_of stood.map key) (get_or stood.puts key 0) pin), stood)
   again_by key is =
-      ap
-      (λ (p : Option Pin). with_pin p stood
-      (λ (q : Pin). (Ok (find_again (state_of stood.map key) (get_or stood.puts key 0) q), stood)))
-      is
+      rw is
 
   pins_set : map pin_of (set hands0 at x) ≡ set (map pin_of hands0) at (pin_of x)
   pins_set = map-set pin_of hands0 at x
@@ -151,10 +146,9 @@ module _ (laws : Laws) (table : Table) (w0 : Caller) (hands0 : List Handed) (alo
   says_call heard call answer (r, is, made, before, after, fits) =
       let s = settled_call heard call r made fits in (
         s.alone,
-        ap (λ (p : Option Pin). without_pin p stood (answer_call stood call)) (pin_here ∙ before)
-            ∙ answers_quiet laws table w0 hands0 (set hands0 at x) (suc at) call r g.mid.seen w' hands' s
-            (pins_kept (after ∙ sym before)) made.quiet
-            ∙ ap (λ (a : Answer). (Ok a, shown_by table w' hands')) (sym is),
+        rw (pin_here, before, is)
+            (answers_quiet laws table w0 hands0 (set hands0 at x) (suc at) call r g.mid.seen w' hands' s
+            (pins_kept (after ∙ sym before)) made.quiet),
       )
 
   -- the find of a pin leaves all but the pins
@@ -236,19 +230,13 @@ module _ (laws : Laws) (table : Table) (w0 : Caller) (hands0 : List Handed) (alo
       made fits (pins_set ∙ ap (set (map pin_of hands0) at) pinned) in
       let is = state_is (state_of stood.map key) rows (reply_at heard key (reply.Rows rows) made fits) in (
         (settled_call heard (model.Find key) (reply.Rows rows) made fits).alone,
-        ap (λ (p : Option Pin). without_pin p stood (answer_pin stood at key (state_of stood.map key)))
-            (pin_here ∙ before)
-            ∙ ap (answer_pin stood at key) is.1
-            ∙ ap (λ (k : MapState). (Ok answers.Ok, k)) (sym now),
+        rw (pin_here, before, is.1, now),
       )
   says_pin heard key (answers.Reply r) inside (is, made, before, after, fits) =
       let now = found heard key reply.Hole (map pin_of hands0) made fits (pins_kept (after ∙ sym before)) in (
         (settled_call heard (model.Find key) reply.Hole made fits).alone,
-        ap (λ (p : Option Pin). without_pin p stood (answer_pin stood at key (state_of stood.map key)))
-            (pin_here ∙ before)
-            ∙ found_hole (state_of stood.map key) stood at key (reply_at heard key reply.Hole made fits)
-            ∙ ap (λ (k : MapState). (Ok (answers.Reply reply.Hole), k)) (sym now)
-            ∙ ap (λ (k : Reply). (Ok (answers.Reply k), shown_by table w' hands')) (sym is),
+        rw (pin_here, before, now, is)
+            (found_hole (state_of stood.map key) stood at key (reply_at heard key reply.Hole made fits)),
       )
   says_pin heard key answers.Other inside made = absurd made
   says_pin heard key answers.NoSlot inside made = absurd made
@@ -272,17 +260,16 @@ module _ (laws : Laws) (table : Table) (w0 : Caller) (hands0 : List Handed) (alo
       let now
       = rested_state (set (map pin_of hands0) at None) s (pins_set ∙ ap (set (map pin_of hands0) at) after) in (
         s.alone,
-        with_some (pin_at stood at) stood (Ok answers.Ok, pins_after stood at None) (subst IsSome (sym pin_here) before)
-            ∙ ap (λ (k : MapState). (Ok answers.Ok, k)) (sym now)
-            ∙ ap (λ (a : Answer). (Ok a, shown_by table w' hands')) (sym is),
+        rw (now, is)
+            (with_some (pin_at stood at) stood (Ok answers.Ok, pins_after stood at None)
+            (subst IsSome (sym pin_here) before)),
       )
 
   -- a reader that keeps its pin
   still_fits : KeepsPin old x → HandHoldsItsPin x
   still_fits (same, holds) =
       let had : HandHoldsItsPin old = subst HandHoldsItsPin (here old) (alone.places at old low).fits in
-      subst (λ (p : Option Pin). HoldsItsPin p x.reader.holds) (sym same)
-      (subst (HoldsItsPin (pin_of old)) (sym holds) had)
+      rw (same, holds) had
 
   pub says_show : (answer : Answer) → ShowsPin old x (Ok answer)
       → Says (with_pin (pin_at stood at) stood (λ pin. (Ok (answers.Reply (reply.Rows pin.rows)), stood))) answer
@@ -290,10 +277,7 @@ module _ (laws : Laws) (table : Table) (w0 : Caller) (hands0 : List Handed) (alo
       let s = rested rests.table rests.number rests.mine (still_fits keeps) in
       let now = rested_state (map pin_of hands0) s (pins_kept keeps.0) in (
         s.alone,
-        ap (λ (p : Option Pin). with_pin p stood (λ (q : Pin). (Ok (answers.Reply (reply.Rows q.rows)), stood)))
-            (pin_here ∙ before)
-            ∙ ap (λ (k : MapState). (Ok (answers.Reply (reply.Rows pin.rows)), k)) (sym now)
-            ∙ ap (λ (a : Answer). (Ok a, shown_by table w' hands')) (sym is),
+        rw (pin_here, before, now, is),
       )
 
   -- it has heard the history, so where its line is no call it has seen just that
@@ -319,12 +303,13 @@ module _ (laws : Laws) (table : Table) (w0 : Caller) (hands0 : List Handed) (alo
       let filled = state_is (state_of stood.map key) pin.rows (reply_at heard key (reply.Rows pin.rows) made fits) in
       let put : get_or stood.puts key 0 ≡ pin.put = sym (put_found heard key pin.rows inside made fits) ∙ has.1 in (
         (settled_call heard (model.Find key) (reply.Rows pin.rows) made fits).alone,
-        again_by key (pin_here ∙ before)
-            ∙ ap (λ (a : Answer). (Ok a, stood))
-            (ap (λ (k : KeyState). find_again k (get_or stood.puts key 0) pin) filled.1
-            ∙ found_rows filled.0 pin.rows (get_or stood.puts key 0) pin put)
-            ∙ ap (λ (k : MapState). (Ok (answers.Reply (reply.Rows pin.rows)), k)) (sym now)
-            ∙ ap (λ (k : Reply). (Ok (answers.Reply k), shown_by table w' hands')) (sym is),
+        rw (
+          again_by key (pin_here ∙ before),
+          filled.1,
+          found_rows filled.0 pin.rows (get_or stood.puts key 0) pin put,
+          now,
+          is,
+        ),
       )
   says_again key answers.Other inside (pin, before, grows, hasnt, keeps) =
       let fits = still_fits keeps in
@@ -341,10 +326,11 @@ module _ (laws : Laws) (table : Table) (w0 : Caller) (hands0 : List Handed) (alo
         ap (λ (l : List Entry). put_number l key) seen ∙ sym (put_in key inside) ∙ put,
       ) in (
         s.alone,
-        again_by key (pin_here ∙ before)
-            ∙ ap (λ (a : Answer). (Ok a, stood))
-            (found_other (state_of stood.map key) (get_or stood.puts key 0) pin no_put)
-            ∙ ap (λ (k : MapState). (Ok answers.Other, k)) (sym now),
+        rw (
+          again_by key (pin_here ∙ before),
+          found_other (state_of stood.map key) (get_or stood.puts key 0) pin no_put,
+          now,
+        ),
       )
   says_again key answers.Ok inside made = absurd made
   says_again key answers.NoSlot inside made = absurd made

@@ -1,15 +1,14 @@
 -- Rounds of gathers over hands.
-use Rattle.std.proofs.Common.{◌≡◌, ◌<◌, ℕ, suc, ◌+◌, List, [], ◌∷◌, ◌++◌, ◌==◌, length, map, All, get_or, refl, sym, ap}
+use Rattle.std.proofs.Common.{◌≡◌, ◌<◌, ℕ, suc, ◌+◌, List, [], ◌∷◌, ◌++◌, ◌==◌, length, map, All, get_or, sym, ap}
 use Rattle.std.proofs.Common.{◌∙◌, subst, append_assoc, arith, length-append, ◌≢◌, set, below_more}
 use Rattle.std.proofs.lemmas.List.{append-nil, nil_from_length, get_or-set_same, get_or-set_other, get_or_default}
-use Rattle.std.proofs.lemmas.List.{get_or-map, length-set}
+use Rattle.std.proofs.lemmas.List.{get_or-map, length-map, length-set}
 use Rattle.std.proofs.lemmas.List.Elements.{filter-append}
 use Rattle.std.proofs.Math.Seq.{map-set_same}
 use mathlib.Core.Option.{some}
 use lib.ListN.{get_elem?}
 use Rattle.nr_model.specs.Histories.{Entry, IsLegal, entries_of}
-use Rattle.nr_core.specs.declared.places.Retired.{Retired}
-use Rattle.nr_core.specs.Marks.{Marks, Past}
+use Rattle.nr_core.specs.Marks.{Past}
 use Rattle.nr_core.specs.Pasts.{Current}
 use Rattle.nr_board.specs.Callers.{Caller, Table, map_at_opening}
 use Rattle.nr_board.specs.Entries.{AreCallers}
@@ -33,14 +32,7 @@ starts_then xs ys zs a b =
 -- of two histories that begin each other the one is the other
 pub starts_both : (xs ys : List Entry) → StartsWith xs ys → StartsWith ys xs → xs ≡ ys
 starts_both xs ys a b =
-    let n : length a.rest ≡ 0
-    = omega (
-      arith,
-      ap (λ (l : List Entry). length l) a.is,
-      length-append ys a.rest,
-      ap (λ (l : List Entry). length l) b.is,
-      length-append xs b.rest,
-    ) in
+    let n : length a.rest ≡ 0 = omega (arith, length-append {A = Entry}, ap length a.is, ap length b.is) in
     a.is ∙ ap (λ (l : List Entry). ys ++ l) (nil_from_length a.rest n) ∙ append-nil ys
 
 -- one caller's entries of a history that goes on
@@ -108,8 +100,7 @@ place_on (n ∷ news) known place one is = let on = place_on news known place on
 current_on : (w w' : Caller) (one : Past) → w'.retired ≡ w.retired → w'.marks ≡ w.marks → Current w.retired w.marks one
     → Current w'.retired w'.marks one
 current_on w w' one r m c =
-    subst (λ (l : List Retired). Current l w'.marks one) (sym r)
-    (subst (λ (k : Marks). Current w.retired k one) (sym m) c)
+    rw (r, m) c
 
 -- what was shown stays so, while the writer learns of others
 pub shown_on : (log : List Entry) (w r w' r' : Caller) (x : Handed) → Gathers w r w' r' → IsShown log w x
@@ -173,13 +164,9 @@ skipped log w hands i first is shown done at other below_i =
     below_more (λ (j : ℕ). (o : Handed) → IsShown log w (get_or hands j o)) i (λ j before o. done j o before)
     (λ o. subst (λ (j : ℕ). IsShown log w (get_or hands j o)) (sym is) (shown o)) at below_i other
 
-many_still : (xs : List Handed) → length (map still xs) ≡ length xs
-many_still [] = refl
-many_still (x ∷ xs) = ap suc (many_still xs)
-
 -- hands that gathers left as they were
 pub same_length : (xs ys : List Handed) → map still xs ≡ map still ys → length xs ≡ length ys
-same_length xs ys e = sym (many_still xs) ∙ ap (λ (l : List Still). length l) e ∙ many_still ys
+same_length xs ys e = omega (arith, length-map xs still, length-map ys still, ap length e)
 
 pub same_at : (xs ys : List Handed) → map still xs ≡ map still ys → (at : ℕ) (a b : Handed) → at < length xs
     → still (get_or xs at a) ≡ still (get_or ys at b)

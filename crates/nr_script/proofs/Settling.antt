@@ -54,18 +54,12 @@ module _ (laws : Laws) (table : Table) (w0 : Caller) (hands0 : List Handed) (w :
       let number : (get_or hands' at other).reader.number ≡ suc at
       = ap (λ (s : Still). s.how.reader) same ∙ (line.places at other low).number in
       let most : StartsWith (mine_of (get_or hands at other)) (entries_of g.mid.seen (suc at)) =
-      subst (λ (m : List Entry). StartsWith m (entries_of g.mid.seen (suc at))) (ap (λ (s : Still). s.mine) same)
-      (subst (λ (n : ℕ). StartsWith (mine_of (get_or hands' at other)) (entries_of g.mid.seen n)) number shown.few) in
+      rw (number, ap (λ (s : Still). s.mine) same) at shown.few in
       let had : entries_of log (suc at) ≡ mine_of (get_or hands at other) =
-      alone.just (suc at)
-      ∙ sym
-      (line.grown (suc at)
-      ∙ ap (λ (l : List Entry). calls_of w0.mine (map mine_of hands0) (suc at) ++ l) (line.others at apart)
-      ∙ append-nil (calls_of w0.mine (map mine_of hands0) (suc at)))
+      alone.just (suc at) ∙ sym (rw (line.others at apart, append-nil) at (line.grown (suc at)))
       ∙ calls_at w.mine hands at other low in
       let least : StartsWith (entries_of g.mid.seen (suc at)) (mine_of (get_or hands at other))
-      = subst (λ (m : List Entry). StartsWith (entries_of g.mid.seen (suc at)) m) had
-      (starts_each g.mid.seen log (suc at) goes) in
+      = rw had at (starts_each g.mid.seen log (suc at) goes) in
       starts_both (entries_of g.mid.seen (suc at)) (mine_of (get_or hands at other)) least most
 
   of_first : (other : Handed) → entries_of g.mid.seen (suc first) ≡ mine_of (get_or hands first other)

@@ -16,8 +16,7 @@ use Rattle.nr_core.specs.MarkLaws.{PutGoesOn}
 use Rattle.nr_board.specs.Callers.{Table, map_at_opening}
 use Rattle.nr_script.specs.Answers as answers
 use Rattle.nr_map.specs.Hands.{Handed}
-use Rattle.nr_script.specs.MapState.{MapOutcome, MapState, after_call, answer_call, is_full, put_count_after}
-use Rattle.nr_script.specs.MapState.{puts_after}
+use Rattle.nr_script.specs.MapState.{MapState, after_call, answer_call, is_full, put_count_after, puts_after}
 use Rattle.nr_script.specs.Alone.{shown_after}
 
 -- a number in a range is changed at its place
@@ -26,20 +25,17 @@ range_past : (g : ℕ → ℕ) (v key a n : ℕ) → key < a
 range_past g v key a zero low = refl
 range_past g v key a (suc n) low =
     let apart : key ≢ a = omega arith in
-    ap (λ b. cond b v (g a) ∷ map (λ k. cond (key == k) v (g k)) (range_with_len (a + 1) n)) (ne_eqb key a apart)
-    ∙ ap (λ l. g a ∷ l) (range_past g v key (a + 1) n (omega arith))
+    rw (ne_eqb key a apart, range_past g v key (a + 1) n (omega arith))
 
 range_set : (g : ℕ → ℕ) (v key a n i : ℕ) → key ≡ a + i
     → map (λ k. cond (key == k) v (g k)) (range_with_len a n) ≡ set (map g (range_with_len a n)) i v
 range_set g v key a zero i is = refl
 range_set g v key a (suc n) zero is =
     let same : key ≡ a = omega arith in
-    ap (λ b. cond b v (g a) ∷ map (λ k. cond (key == k) v (g k)) (range_with_len (a + 1) n)) (eq-eqb key a same)
-    ∙ ap (λ l. v ∷ l) (range_past g v key (a + 1) n (omega arith))
+    rw (eq-eqb key a same, range_past g v key (a + 1) n (omega arith))
 range_set g v key a (suc n) (suc i) is =
     let apart : key ≢ a = omega arith in
-    ap (λ b. cond b v (g a) ∷ map (λ k. cond (key == k) v (g k)) (range_with_len (a + 1) n)) (ne_eqb key a apart)
-    ∙ ap (λ l. g a ∷ l) (range_set g v key (a + 1) n i (omega arith))
+    rw (ne_eqb key a apart, range_set g v key (a + 1) n i (omega arith))
 
 pub quiet_count : PutGoesOn → (log : List Entry) (e : Entry) → is_done e.reply ≡ false
     → put_count (log ++ e ∷ []) ≡ put_count log
@@ -89,16 +85,8 @@ module _ (puts : PutGoesOn) (table : Table) (log : List Entry) (n : ℕ) (call :
 -- the call's answer is the map's reply, where no slot is needed or one is left
 pub answered : (state : MapState) (call : Call) → (is_done (reply_to state.map call) && is_full state) ≡ false
     → answer_call state call ≡ (Ok (answers.Reply (reply_to state.map call)), after_call state call)
-answered state call none =
-    ap
-    (λ b. cond {A = MapOutcome} b (Ok answers.NoSlot, state)
-    (Ok (answers.Reply (reply_to state.map call)), after_call state call))
-    none
+answered state call none = rw none
 
 pub lacking : (state : MapState) (call : Call) → (is_done (reply_to state.map call) && is_full state) ≡ true
     → answer_call state call ≡ (Ok answers.NoSlot, state)
-lacking state call none =
-    ap
-    (λ b. cond {A = MapOutcome} b (Ok answers.NoSlot, state)
-    (Ok (answers.Reply (reply_to state.map call)), after_call state call))
-    none
+lacking state call none = rw none
