@@ -54,8 +54,8 @@ returns-in_err-sleep_if-clause-waits g c =
     let so_far = c.loop-i.invariant in
     let counted = c.count_for-counted.ensures in
     let slept = c.in_err-sleep_if.ensures.slept in
-    sleeps_late g.R.RowRoom.shows so_far.slept _ c.from_residual.result c.from_residual.ensures.1 (omega (arith, slept.0))
-    (c.in-Missed.ensures.tries.1 ∙ so_far.rows) (rw (counted.id.0, counted.hands) at slept.1)
+    sleeps_late g.R.RowRoom.shows so_far.slept _ c.from_residual.result c.from_residual.ensures.1
+    (omega (arith, slept.0)) (c.in-Missed.ensures.tries.1 ∙ so_far.rows) (rw (counted.id.0, counted.hands) at slept.1)
     (later_both _ _ _ counted.looks.later
     (later_both _ _ _ c.try_once.ensures.rings.raises.later c.sleep_if.ensures.looks.later))
 
