@@ -34,6 +34,7 @@ pub fn a_client_that_sends_much_at_once(case: &mut Case) {
     let mut stream = much.stream();
     let sends = thread::spawn(move || stream.write_all("GET votes:a\r\n".repeat(MANY - FIRST).as_bytes()).unwrap());
     other.say("GET votes:a\r\nINFO\r\n").unwrap();
+    until("the other has sent", || other.has_sent());
     edge.signal("CONT");
     assert_eq!(other.reply().unwrap(), "");
     let info = other.reply().unwrap();

@@ -3,7 +3,7 @@
 use edge_common::postgres::pq::{Connection, Table};
 use std::fs::{self, File};
 use std::io::{BufRead, BufReader, ErrorKind, Read, Result, Write};
-use std::net::TcpStream;
+use std::net::{SocketAddr, TcpStream};
 use std::path::PathBuf;
 use std::process::{Child, Command, Stdio};
 use std::sync::atomic::{AtomicU32, Ordering::SeqCst};
@@ -213,6 +213,16 @@ impl Client {
     /// For another thread to send by.
     pub fn stream(&self) -> TcpStream {
         self.0.get_ref().try_clone().unwrap()
+    }
+
+    /// Whether all that it sent has come to the edge's side, which on a busy system takes a while.
+    pub fn has_sent(&self) -> bool {
+        let port = |address: Result<SocketAddr>| format!(":{:04X}", address.unwrap().port());
+        let (from, to) = (port(self.0.get_ref().local_addr()), port(self.0.get_ref().peer_addr()));
+        let sockets = fs::read_to_string("/proc/net/tcp").unwrap();
+        let mut lines = sockets.lines().map(|line| line.split_whitespace().collect::<Vec<_>>());
+        let own = lines.find(|words| words[1].ends_with(&from) && words[2].ends_with(&to));
+        own.is_some_and(|words| words[4].starts_with("00000000:"))
     }
 
     /// Sends without a look for replies.
