@@ -32,10 +32,14 @@ def rt():
     return made
 
 
+def processors():
+    return len(os.sched_getaffinity(0))
+
+
 def lanes(others=0):
-    """How many provers may run side by side, each by one process, where so many others run already."""
+    """How many provers may run side by side, each by one process, where so many others begin too."""
     free = int(re.search(r"MemAvailable: *(\d+)", pathlib.Path("/proc/meminfo").read_text())[1])
-    return max(1, min(len(os.sched_getaffinity(0)), free // ONE_PROVER - others))
+    return max(1, min(processors(), free // ONE_PROVER - others))
 
 
 def say(line):
