@@ -45,7 +45,7 @@ abbrev pub SaidBehind : List LoggedLoad → List LoggedLoad → ℕ → Past →
 SaidBehind before now slot note =
     (at : ℕ) × (get_elem? now (length before + at) ≡ some (OfWord note.reader (suc slot)))
 
--- so of one of the first readers, which holds that slot or none
+-- the noted reader is one of the first ones; it holds that slot or none, and its word said the slot behind those loads
 pub record KeepsOne (readers : ℕ) (before now : List LoggedLoad) (slot : ℕ) (note : Past) : Type 0 where
   pub made : 0 < note.reader
   pub few : note.reader ≤ readers
