@@ -25,7 +25,7 @@ use Rattle.nr_core.specs.declared.calls.WriterCall.TheVariants.{Cancel, Evict, F
 use Rattle.nr_core.specs.declared.places.Place.{Place}
 use Rattle.nr_core.specs.declared.places.Place.TheVariants.{Idle, Leaving, Reading, Withdrawing}
 use Rattle.nr_core.specs.declared.roles.Desk.{Desk}
-use Rattle.nr_board.proofs.Publishing.{knows_after}
+use Rattle.nr_board.proofs.Publishing.{evicted_one, knows_after, retires_so}
 use Rattle.nr_board.proofs.Tokens.{grows_both, grows_from}
 use Rattle.nr_board.specs.WriterAnswers.{HasNoSlot, KeyHad, Publishes, RetiresOne, SlotsStay}
 use Rattle.nr_board.specs.Callers.{Gains, Grows, Table, map_at_opening, token}
@@ -36,7 +36,6 @@ use Rattle.nr_board.proofs.Looks.{HasLooked, rests_own}
 use Rattle.nr_board.proofs.ReadingOn.{settled_quiet}
 use Rattle.nr_board.specs.NamedRows.{ReadsAll}
 use Rattle.nr_board.proofs.KeySets.{before_last, had_before, none_between}
-use Rattle.nr_board.proofs.Retiring.{evicted_one, retires_so}
 use Rattle.nr_board.proofs.Waiting.{lists_shown}
 use Rattle.nr_board.specs.Kinds.{kind_of}
 use Rattle.nr_board.proofs.Keepers.{kept_since}

@@ -1,6 +1,6 @@
 use Rattle.std.proofs.Common.{ap, arith, sym, ℕ, ◌<◌}
 use Rattle.nr_board.proofs.BoardPlaces.{own_shape, said_at, said_in, same_id, stands}
-use Rattle.nr_board.proofs.WordSeats.{said_nothing, said_rests, said_word}
+use Rattle.nr_board.proofs.ReaderSeats.{said_nothing, said_rests, said_word}
 use Rattle.nr_board.proofs.WordSteps.{holds_by_word, says_so}
 use Rattle.nr_board.specs.Callers.{Table}
 use Rattle.nr_board.proofs.board.Board.clear.Goals as goal

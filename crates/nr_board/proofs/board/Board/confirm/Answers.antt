@@ -1,8 +1,8 @@
 use Rattle.std.proofs.Common.{ap, arith, sym, ◌∙◌, ◌<◌}
 use Rattle.nr_core.specs.declared.shape.Shape.{Shape}
 use Rattle.nr_board.proofs.BoardPlaces.{key_in, stands}
-use Rattle.nr_board.proofs.WordSeats.{confirmed_held, confirmed_marks, confirmed_not_yet, confirmed_other}
-use Rattle.nr_board.proofs.WordSeats.{confirmed_says, confirmed_word, looked_announces, looked_hole, looked_named}
+use Rattle.nr_board.proofs.ReaderSeats.{confirmed_held, confirmed_marks, confirmed_not_yet, confirmed_other}
+use Rattle.nr_board.proofs.ReaderSeats.{confirmed_says, confirmed_word, looked_announces, looked_hole, looked_named}
 use Rattle.nr_board.proofs.ReaderSeats.{names_empty}
 use Rattle.nr_board.proofs.WordSteps.{confirms_so}
 use Rattle.nr_board.specs.Callers.{Table}

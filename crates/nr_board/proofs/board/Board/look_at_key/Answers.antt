@@ -1,5 +1,5 @@
 use Rattle.nr_board.proofs.BoardPlaces.{key_in, key_near, own_shape, same_id, stands}
-use Rattle.nr_board.proofs.WordSeats.{looked_hole, looked_idle, looked_named}
+use Rattle.nr_board.proofs.ReaderSeats.{looked_hole, looked_idle, looked_named}
 use Rattle.nr_board.proofs.WordSteps.{looks_up_so}
 use Rattle.nr_board.proofs.board.Board.look_at_key.Goals as goal
 
