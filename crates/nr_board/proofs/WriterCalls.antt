@@ -30,7 +30,7 @@ use Rattle.nr_board.proofs.Tokens.{grows_both, grows_from}
 use Rattle.nr_board.specs.WriterAnswers.{HasNoSlot, KeyHad, Publishes, RetiresOne, SlotsStay}
 use Rattle.nr_board.specs.Callers.{Gains, Grows, Table, map_at_opening, token}
 use Rattle.nr_core.specs.SlotLists.{SlotLists}
-use Rattle.nr_board.specs.SlotLists.{AreFewSteps, desk_with, lists_of}
+use Rattle.nr_board.specs.SlotLists.{desk_with, lists_of}
 use Rattle.nr_core.specs.Marks.{Marks, with_loads, with_name, with_polls, with_scan, without_name}
 use Rattle.nr_board.proofs.Looks.{HasLooked, rests_own}
 use Rattle.nr_board.proofs.ReadingOn.{settled_quiet}
@@ -134,6 +134,10 @@ module _ {table : Table} {lists : SlotLists} {steps : ℕ} {call : WriterCall} {
   own_lists : lists ≡ lists_of (token before)
   own_lists = sym (lists_shown table lists before set.rests)
 
+  -- the same of the table and the lists that its token shows
+  own_set : HasSet (token before).table (lists_of (token before)) steps call rows before mid
+  own_set = rw (own_table, own_lists) at set
+
   pub has_published : {given : WriterCall} {after_lists : SlotLists} {after : MapSeat} → given ≡ call
       → (put : PublishesSet table given rows mid lists after after_lists)
       → RestsAt (token after).table after_lists after
@@ -141,48 +145,46 @@ module _ {table : Table} {lists : SlotLists} {steps : ℕ} {call : WriterCall} {
   has_published {after_lists = after_lists} {after = after} is put =
       let here
       = subst
-      (λ (c : WriterCall). (p : PublishesSet table c rows mid lists after after_lists) × (p.slot ≡ put.slot))
-      is (put, refl) in
+      (λ (p : WriterCall × Table × SlotLists). (q : PublishesSet p.1 p.0 rows mid p.2 after after_lists)
+      × (q.slot ≡ put.slot))
+      (λ j. (is j, own_table j, own_lists j)) (put, refl) in
       let published = here.0 in
       let all
       = grows_both {sum = steps + 2 * length rows + 2 + published.steps} (omega arith) set.grows published.grows in
-      let rests_after : RestsAt table after_lists after
+      let rests_after : RestsAt (token before).table after_lists after
       = record {
         writes = published.writes;
-        slots = published.slots ∙ set.rests.slots;
+        slots = published.slots ∙ own_set.rests.slots;
         reaped =
             ap (λ (s : SlotLists). s.reaped) published.retires
             ∙ ap (λ (l : List Bool). slice_set l published.slot false)
-            (set.rests.reaped ∙ ap (λ (m : Marks). m.reaped) (sym set.marks))
+            (own_set.rests.reaped ∙ ap (λ (m : Marks). m.reaped) (sym set.marks))
             ∙ ap (λ (m : Marks). m.reaped) (sym published.marks);
         own = all.own;
       } in
-      let lists_after = lists_shown table after_lists after rests_after in
+      let lists_after = lists_shown (token before).table after_lists after rests_after in
       let log = published.log in
       let done_then
       = (legal_goes_on_lem (map_at_opening (token before).table) log (entry 0 (call_of call) reply.Done)).1.1
       (subst (IsLegal (map_at_opening (token before).table)) published.seen all.legal) in (
-        rests_own table after_lists after rests_after,
+        rests_own (token before).table after_lists after rests_after,
         record {
           searched = published.steps;
           slot = published.slot;
-          inside = subst (λ (t : Table). published.slot < t.shape.slots) own_table published.inside;
+          inside = published.inside;
           mid = published.mid;
           scanned = published.scanned;
           loads = published.loads;
-          took = rw own_lists at (rw set.heard at (rw own_table at published.took));
+          took = rw set.heard at published.took;
           heard = published.heard;
-          few = subst (λ (t : Table). AreFewSteps t published.steps) own_table published.few;
+          few = published.few;
           fresh = ap (λ (s : SlotLists). s.fresh) (lists_after ∙ published.retires);
-          numbers =
-              ap (λ (s : SlotLists). s.numbers) lists_after ∙ published.numbers
-              ∙ ap (λ (s : SlotLists). s.numbers) own_lists;
+          numbers = ap (λ (s : SlotLists). s.numbers) lists_after ∙ published.numbers;
           retires =
               retires_so published.word (token before) published.mid.retired (token after).retired
               (ap (λ (s : SlotLists). s.retired) (lists_after ∙ published.retires)) (map_after before.me.0.shape log)
               call done_then.1
-              (published.swaps.state
-              ∙ ap (λ (t : Table). kind_of (state_of (map_after t.shape log) (key_of call))) own_table)
+              published.swaps.state
               (ap (λ (m : Marks). get_or m.names (key_of call) 0) (sym set.marks) ∙ published.swaps.name);
           number = published.number;
           count = published.count;
@@ -201,29 +203,26 @@ module _ {table : Table} {lists : SlotLists} {steps : ℕ} {call : WriterCall} {
       → RestsAt (token after).table after_lists after
       × HasNoSlot steps (call_of call) (token before) (token after) counts
   has_lacked {after_lists = after_lists} {after = after} {counts = counts} is lacked =
-      let lacking = subst (λ (c : WriterCall). LacksSlot table c mid lists after after_lists counts) is lacked in
-      let retired_are = ap (λ (s : SlotLists). s.retired) own_lists in
+      let lacking = rw (is, own_table, own_lists) at lacked in
       let all = grows_both refl set.grows lacking.grows in
-      let rests_lists : RestsAt table lists after = record {
+      let rests_lists : RestsAt (token before).table (lists_of (token before)) after = record {
         writes = lacking.writes;
-        slots = set.rests.slots;
-        reaped = set.rests.reaped
+        slots = own_set.rests.slots;
+        reaped = own_set.rests.reaped
             ∙ ap (λ (m : Marks). m.reaped) (sym set.marks) ∙ ap (λ (m : Marks). m.reaped) (sym lacking.marks);
         own = all.own;
       } in (
-        rests_own table after_lists after
-            (subst (λ (s : SlotLists). RestsAt table s after) (sym lacking.same) rests_lists),
+        rests_own (token before).table after_lists after (rw lacking.same rests_lists),
         record {
           searched = lacking.steps;
           loads = lacking.loads;
-          all = rw retired_are at (rw set.heard at (rw own_table at lacking.searched));
+          all = rw set.heard at lacking.searched;
           grows = all;
           readers = none_between (steps + lacking.steps) (token before) [] (token after) set.rests.own refl all;
           lacks = lacking.lacks;
-          noted = λ counted. rw set.grows.pasts at (rw own_table at (lacking.noted (ap (λ (t : Table). t.announcers)
-              own_table ∙ counted)));
-          kept = rw retired_are at (rw own_table at (kept_since (grows_from set.grows) lacking.kept));
-          slots = same_slots table lists before set.rests after rests_lists;
+          noted = λ counted. rw set.grows.pasts at (lacking.noted counted);
+          kept = kept_since (grows_from set.grows) lacking.kept;
+          slots = same_slots (token before).table (lists_of (token before)) before own_set.rests after rests_lists;
           marks =
               lacking.marks
               ∙ ap (λ (m : Marks). with_scan m after.me.0.marks.polls (m.loads ++ lacking.loads)) set.marks;
