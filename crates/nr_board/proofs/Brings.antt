@@ -1,7 +1,6 @@
 -- The call that ends brings a row set of the map: each was given one, and so the set that a call wants at its key is
 -- the one that it brings.
-use Rattle.std.proofs.Common.{◌≡◌, ℕ, ◌+◌, ◌*◌, ◌<◌, ◌==◌, Bool, true, false, if◌then◌else◌, List, length, inl, refl}
-use Rattle.std.proofs.Common.{sym, ap, subst}
+use Rattle.std.proofs.Common.{◌≡◌, ℕ, ◌+◌, ◌*◌, ◌<◌, ◌==◌, List, length, inl, refl, sym, ap, subst}
 use Rattle.std.specs.Prelude.{None, Some, Option, slice_index}
 use Rattle.nr_model.specs.declared.rows.Row.{Row}
 use Rattle.nr_model.specs.declared.calls.Call.{Call}
@@ -19,14 +18,13 @@ use Rattle.nr_core.specs.declared.calls.Step.{Step}
 use Rattle.nr_core.specs.declared.calls.Step.TheVariants.{Ended, Going}
 use Rattle.nr_core.specs.declared.calls.WReply.TheVariants as writer
 use Rattle.nr_core.specs.declared.calls.WriterCall.{WriterCall}
-use Rattle.nr_core.specs.declared.calls.WriterCall.TheVariants.{Find, Fill, Update, Replace, Evict, Cancel}
-use Rattle.nr_core.specs.declared.places.Place.TheVariants.{Reading}
+use Rattle.nr_core.specs.declared.calls.WriterCall.TheVariants.{Fill, Replace}
 use Rattle.nr_core.specs.declared.roles.Desk.{Desk}
 use Rattle.nr_core.specs.declared.shape.Shape.{Shape}
 use Rattle.nr_core.specs.Given.{IsGivenCall}
 use Rattle.nr_core.specs.Slots.{bound_of}
 use Rattle.nr_core.specs.Story.{call_of, ending}
-use Rattle.nr_core.specs.Writer.{decided, decoded, moved_to, read_on}
+use Rattle.nr_core.specs.Writer.{decided, decoded, read_on}
 use Rattle.nr_core.specs.Core.{Wants}
 use Rattle.nr_board.specs.Entries.{AreCallers}
 use Rattle.nr_board.specs.NamedRows.{rows_of_state}

@@ -1,17 +1,15 @@
 -- A set is put word by word, and published; and what a call that swapped in another word retires, by the word that its
 -- key had.
-use Rattle.std.proofs.Common.{◌≡◌, ℕ, ◌+◌, ◌*◌, ◌≤◌, List, [], ◌++◌, Bool, cond, false, true, get_or, length, set, refl}
-use Rattle.std.proofs.Common.{sym, ap, ◌∙◌, subst, arith, ◌∷◌, append-nil}
+use Rattle.std.proofs.Common.{◌≡◌, ℕ, ◌+◌, ◌*◌, ◌≤◌, List, [], ◌++◌, Bool, false, true, get_or, length, set, refl, sym}
+use Rattle.std.proofs.Common.{ap, ◌∙◌, subst, arith, append-nil}
 use Rattle.std.specs.Prelude.{slice_set, nat_lt}
 use Rattle.std.proofs.lemmas.Bool.{lt-leb}
 use Rattle.std.proofs.lemmas.List.{set-set}
 use Rattle.nr_model.specs.declared.calls.Reply.TheVariants as reply
 use Rattle.nr_model.specs.declared.rows.Row.{Row}
 use Rattle.nr_model.specs.Histories.{Entry, IsLegal}
-use Rattle.nr_core.specs.Story.{call_of, ending}
-use Rattle.nr_core.specs.Writer.{ended, moved_to, swapped, unnamed}
-use Rattle.nr_core.specs.declared.calls.Step.{Step}
-use Rattle.nr_core.specs.declared.calls.Step.TheVariants.{Going}
+use Rattle.nr_core.specs.Story.{call_of}
+use Rattle.nr_core.specs.Writer.{moved_to, unnamed}
 use Rattle.nr_core.specs.declared.calls.WriterCall.{WriterCall}
 use Rattle.nr_core.specs.declared.places.Place.TheVariants.{Idle, Putting}
 use Rattle.nr_core.specs.declared.roles.Desk.{Desk}
@@ -26,7 +24,7 @@ use Rattle.nr_core.specs.SlotLists.{SlotLists}
 use Rattle.nr_board.specs.SlotLists.{desk_with}
 use Rattle.nr_core.specs.Marks.{Marks, with_name, with_scan}
 use Rattle.nr_core.specs.States.{key_of}
-use Rattle.nr_board.specs.WriterSeats.{GoesOn, IsPutting, LeadsIn, MapSeat, PublishesSet, PutsTo, TakesSlot, WritesAt}
+use Rattle.nr_board.specs.WriterSeats.{GoesOn, IsPutting, MapSeat, PublishesSet, PutsTo, TakesSlot, WritesAt}
 use Rattle.nr_core.specs.Slots.{content, name_number}
 use Rattle.nr_words.specs.SetWords.{encode}
 use Rattle.nr_model.specs.declared.batches.Delta.{Delta}
@@ -41,7 +39,6 @@ use Rattle.nr_core.specs.declared.places.Retired.{Retired}
 use Rattle.nr_board.proofs.ReaderSeats.{filled_name, shown_filled}
 use Rattle.nr_board.specs.WriterAnswers.{Retires, RetiresOne}
 use Rattle.nr_board.specs.Kinds.{kind_of, kind_shown}
-use Rattle.nr_board.specs.declared.answers.KeyKind.{KeyKind}
 use Rattle.nr_board.specs.declared.answers.KeyKind.TheVariants as kind
 use Rattle.nr_model.specs.declared.calls.Reply.{Reply}
 
@@ -119,12 +116,10 @@ module
   published =
       let last : ℕ = 2 * length rows + 1 in let desk = desk_with mid_lists (Putting call rows slot departed last) in
       let told = goes desk writes.role in
-      let outcome = ap (λ (b : Bool). cond {A = Desk × Step} b
-      (moved_to desk (Putting call rows slot departed (last + 1)), Going) (swapped desk found, ended reply.Done))
-      (lt-leb last (2 * length rows) (omega arith)) in
-      let leads = subst (λ (o : Desk × Step). LeadsIn 1 table (call_of call) o mid after) outcome told.leads in
-      let marks = rw (lt-leb last (2 * length rows) (omega arith)) at told.marks in
-      let swaps = rw (lt-leb last (2 * length rows) (omega arith)) at told.finds in
+      let behind = lt-leb last (2 * length rows) (omega arith) in
+      let leads = rw behind at told.leads in
+      let marks = rw behind at told.marks in
+      let swaps = rw behind at told.finds in
       let only_polls = marks_stay ∙ took.marks
       ∙ ap (λ (m : Marks). with_scan before.me.0.marks m.polls (before.me.0.marks.loads ++ took.loads))
       (sym marks_stay) in
@@ -133,7 +128,7 @@ module
           slot = slot;
           inside = writes.room.place.0;
           log = told.log;
-          seen = told.seen ∙ ap (λ (o : Desk × Step). told.log ++ ending (call_of call) o.1) outcome;
+          seen = rw behind at told.seen;
           swaps = record { state = swaps.state; name = same_names ∙ swaps.name };
           marks = marks.3 ∙ ap (λ (m : Marks). with_name m (key_of call) slot marks.0 rows) only_polls;
           number = marks.0;
@@ -211,9 +206,7 @@ no_cancel other P is = absurd (cc)
 
 -- the word that shows that state
 asked_word : (word : ℕ) → kind_shown word ≡ kind.Asked → is_filled word ≡ false
-asked_word word shows =
-    on_test (λ (k : KeyKind). k ≡ kind.Asked → is_filled word ≡ false) (is_filled word) (λ _ is. absurd (cc))
-    (λ empty _. empty) shows
+asked_word word shows = grind arith
 
 module _ (word : ℕ) (old : Caller) (before after : List Retired) (retires : after ≡ before ++ unnamed word) where
   pub one_retired : (key : ℕ) → get_or old.marks.names key 0 ≡ name_number word → kind_shown word ≡ kind.Rows
@@ -222,12 +215,7 @@ module _ (word : ℕ) (old : Caller) (before after : List Retired) (retires : af
     slot = slot_of word;
     arrivals = arrivals_of word;
     named = named ∙ filled_name word full;
-    retires =
-        retires
-        ∙ ap
-        (λ (b : Bool). before
-        ++ cond {A = List Retired} b (record { slot = slot_of word; arrivals = arrivals_of word } ∷ []) [])
-        full;
+    retires = rw full at retires;
   }
 
   -- by the call's reply, Done
@@ -238,13 +226,8 @@ module _ (word : ℕ) (old : Caller) (before after : List Retired) (retires : af
   retires_so map (Find key) done shows named = no_find (state_of map key) _ done
   retires_so map (Fill key number rows) done shows named =
       let empty = asked_word word (shows ∙ asked_if number (state_of map key) done) in (
-        named ∙ ap (λ (b : Bool). cond {A = ℕ} b (slot_of word + 1) 0) empty,
-        retires
-            ∙ ap
-            (λ (b : Bool). before
-            ++ cond {A = List Retired} b (record { slot = slot_of word; arrivals = arrivals_of word } ∷ []) [])
-            empty
-            ∙ append-nil before,
+        rw empty at named,
+        rw (empty, append-nil before) at retires,
       )
   retires_so map (Update key batch) done shows named =
       one_retired key named (shows ∙ full_if_updated map.bound batch (state_of map key) done)

@@ -6,18 +6,17 @@ use Rattle.std.specs.Prelude.{◌↔◌, ◌&&◌}
 use Rattle.nr_model.specs.declared.calls.Call.TheVariants as model
 use Rattle.nr_model.specs.declared.calls.Reply.TheVariants as reply
 use Rattle.nr_model.specs.Maps.{state_of}
-use Rattle.nr_model.specs.Rows.{IsRowSet}
 use Rattle.nr_words.specs.KeyWords.{is_filled, slot_of}
 use Rattle.nr_core.proofs.Choices.{by_cases}
 use Rattle.nr_core.proofs.KeyWords.{names_one}
 use Rattle.nr_core.proofs.WordPlaces.{same_content}
 use Rattle.nr_core.specs.Marks.{gripped, with_look, Marks, acted}
-use Rattle.nr_core.specs.Slots.{bound_of, content, name_number, names_slot}
+use Rattle.nr_core.specs.Slots.{content, name_number, names_slot}
 use Rattle.nr_core.specs.Steps.{ask_word}
 use Rattle.nr_core.specs.Story.{map_after}
 use Rattle.nr_core.specs.MarkSteps.{ComparesPuts, found_again}
 use Rattle.nr_core.specs.Puts.{put_number}
-use Rattle.nr_core.specs.declared.roles.Grip.TheVariants.{Nothing, On}
+use Rattle.nr_core.specs.declared.roles.Grip.TheVariants.{Nothing}
 use Rattle.nr_core.specs.declared.roles.Role.{Role}
 use Rattle.nr_core.specs.declared.roles.Role.TheVariants.{Reader}
 use Rattle.nr_core.specs.declared.shape.Shape.{Shape}
@@ -30,7 +29,7 @@ use Rattle.nr_board.specs.Meetings.{HasPut}
 use Rattle.nr_board.specs.declared.answers.KeyKind.TheVariants as kind
 use Rattle.nr_board.specs.Plays.{Arrived, Asked, Departed, FoundAgain, Holds, IsIdle, Read}
 use Rattle.nr_board.specs.Seats.{HoldsAt, IdlesAt, AnnouncesAt}
-use Rattle.nr_board.specs.Views.{grip_of, is_sized, caller_number, rows_held, slot_held}
+use Rattle.nr_board.specs.Views.{grip_of, caller_number, rows_held, slot_held}
 use Rattle.nr_board.specs.WordPlays.{Confirmed, HasWord, LookedUp, Said, slot_said}
 
 module _ (table : Table) (before after : MapSeat) (same : after.table_id ≡ before.table_id) where
@@ -77,14 +76,9 @@ module _ (table : Table) (before after : MapSeat) (same : after.table_id ≡ bef
       let rows = ap rows_held told.hold in (
         record {
           own = rests.table ∙ holds.own;
-          holds = record {
-            is =
-                told.hold
-                ∙ (λ j. Reader (sym (ap caller_number told.hold) j)
-                (On (sym slot j) (sym rows j) (is_sized (grip_of after.me.0.role))));
-            inside = subst (λ (s : ℕ). s < table.shape.slots) (sym slot) holds.holds.inside;
-            row_set = subst (IsRowSet (bound_of table.shape)) (sym rows) holds.holds.row_set;
-          };
+          holds =
+              rw told.hold
+              (record { is = refl; inside = holds.holds.inside; row_set = holds.holds.row_set });
           begin_is = holds.begin_is ∙ ap (λ (s : ℕ). content table.shape s 0) (sym slot);
         },
         rows,

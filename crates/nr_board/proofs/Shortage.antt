@@ -1,7 +1,7 @@
 -- The room at the writer's desk: in every core state its slots are the map's, and one can be retired where its call
 -- will. And a call that ends with no slot: it would be done, each slot is a filled key's or retired, and different
 -- readers held the retired ones.
-use Rattle.std.proofs.Common.{◌≡◌, ℕ, ◌+◌, ◌*◌, ◌≤◌, List, length, get_or, refl, sym, ap, ◌∙◌, subst, arith}
+use Rattle.std.proofs.Common.{◌≡◌, ℕ, ◌*◌, ◌≤◌, List, length, get_or, refl, sym, ap, ◌∙◌, subst, arith}
 use Rattle.std.specs.Prelude.{nat_le}
 use mathlib.Core.Option.{some}
 use lib.ListN.{get_elem?}
@@ -26,7 +26,7 @@ use Rattle.nr_core.specs.Operations.{going, target_of}
 use Rattle.nr_core.specs.PollNotes.{AllHeld, NoRoom}
 use Rattle.nr_core.specs.Roles.{held, taken}
 use Rattle.nr_core.specs.Slots.{bound_of}
-use Rattle.nr_core.specs.States.{key_of, retired_at}
+use Rattle.nr_core.specs.States.{key_of}
 use Rattle.nr_core.specs.Story.{call_of, map_after}
 use Rattle.nr_core.specs.Sums.{only}
 use Rattle.nr_core.specs.Writer.{looked, moved_to, went}

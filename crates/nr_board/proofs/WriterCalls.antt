@@ -18,7 +18,6 @@ use Rattle.nr_core.proofs.Without.{not_reply}
 use Rattle.nr_core.specs.Story.{call_of, ending, entry, map_after}
 use Rattle.nr_core.specs.Writer.{decided, ended, looked, moved_to, renewed, settled, unnamed}
 use Rattle.nr_core.specs.declared.calls.NoSlot.{NoSlot}
-use Rattle.nr_core.specs.declared.calls.Step.{Step}
 use Rattle.nr_core.specs.declared.calls.Step.TheVariants.{Going}
 use Rattle.nr_core.specs.declared.calls.WriterCall.{WriterCall}
 use Rattle.nr_core.specs.declared.calls.WriterCall.TheVariants.{Cancel, Evict, Find, Update}
@@ -87,7 +86,7 @@ look_ends {table = table} {lists = lists} {call = call} {before = before} {after
     let ended_so
     = ends table lists before looks.rests 1 (call_of call) answer lists after refl refl
     (ap (λ (m : Marks). m.reaped) looks.marks)
-    (subst (λ (o : Desk × Step). LeadsIn 1 table (call_of call) o before after) is looks.leads) in (
+    (rw is at looks.leads) in (
       rests_own table lists after ended_so.0,
       (ended_so.1, (same_slots table lists before looks.rests after ended_so.0, looks.marks, looks.heard)),
     )
@@ -122,7 +121,7 @@ pub look_settles : {table : Table} {lists : SlotLists} {call : WriterCall} {rows
     → looked table.shape (desk_with lists Idle) call found ≡ settled table.shape
     (desk_with lists Idle) call rows → HasSet table lists 1 call rows before after
 look_settles {table = table} {call = call} {before = before} {after = after} looks is =
-    has_set looks.rests (subst (λ (o : Desk × Step). LeadsIn 1 table (call_of call) o before after) is looks.leads)
+    has_set looks.rests (rw is at looks.leads)
     looks.marks looks.heard
 
 -- and it had the slot, and put the set there, or found none
@@ -235,7 +234,7 @@ module
     (looks : HasLooked table lists call word before mid)
     (leads : looked table.shape (desk_with lists Idle) call word ≡ (desk_with lists place, Going)) where
   pub about_to_go : LeadsIn 1 table (call_of call) (desk_with lists place, Going) before mid
-  about_to_go = subst (λ (o : Desk × Step). LeadsIn 1 table (call_of call) o before mid) leads looks.leads
+  about_to_go = rw leads at looks.leads
 
   swap_ends : (answer : Reply) (after_lists : SlotLists) (after : MapSeat) → after_lists.slots ≡ lists.slots
       → after_lists.reaped ≡ lists.reaped → after.me.0.marks.reaped ≡ mid.me.0.marks.reaped
@@ -330,8 +329,7 @@ module _ {table : Table} {lists : SlotLists} {call given : WriterCall} {found : 
   pub about_to_read : {slot : ℕ} → slot ≡ slot_of found
       → WritesAt table (moved_to (desk_of mid.me.0.role) (Reading given slot [])) mid × (slot < table.shape.slots)
   about_to_read {slot = slot} same = (
-    subst (λ (p : Desk × WriterCall × ℕ). WritesAt table (moved_to p.0 (Reading p.1 p.2 [])) mid)
-        (λ j. (ap desk_of (sym leads_there.writes.role) j, sym is j, sym same j)) leads_there.writes,
+    rw (ap desk_of leads_there.writes.role, is, same) leads_there.writes,
     omega (arith, leads_there.writes.room.place.0, same),
   )
 
@@ -386,11 +384,6 @@ module
       ≡ read.had.log ++ ending (model.Update key batch) (renewed table.shape at_read (Update key batch) left).1
   seen_by left is = rw (sym is) read.had.seen
 
-  -- the map before the update is that of the table
-  own_map : (log : List Entry) (number : ℕ) → state_of (map_after table.shape log) key ≡ states.Rows number rows
-      → state_of (map_after before.me.0.shape log) key ≡ states.Rows number rows
-  own_map log number had = ap (λ (t : Table). state_of (map_after t.shape log) key) read.own ∙ had
-
   pub has_refused : (why : ApplyFault) → applied (bound_of table.shape) rows batch ≡ Err why
       → RestsAt (token after).table lists after
       × ((gains : Gains (2 * length rows + 2) (model.Update key batch) (token before)
@@ -405,7 +398,8 @@ module
       (sym ended_so.1.seen ∙ seen_by (Err why) is) in
       let had
       = ap (λ (l : List Entry). state_of (map_after before.me.0.shape l) key) log_is
-      ∙ own_map read.had.log read.had.number read.had.state in (
+      ∙ ap (λ (t : Table). state_of (map_after t.shape read.had.log) key) read.own
+      ∙ read.had.state in (
         rests_own table lists after ended_so.0,
         (
           ended_so.1,

@@ -1,15 +1,14 @@
 -- The writer's steps on the table: the look of each call, and every later step.
 use Rattle.std.proofs.Common.{◌⊎◌, eq-eqb, inl, inr, ⊎_elim, nat_le, zero, ◌≡◌, ℕ, suc, ◌+◌, ◌-◌, ◌*◌, ◌<◌, ◌≤◌, List}
-use Rattle.std.proofs.Common.{[], ◌∷◌, ◌++◌, Bool, true, false, cond, map, set, get_or, le-leb, length, take, refl, sym}
-use Rattle.std.proofs.Common.{ap, ◌∙◌, subst, arith, append-nil}
+use Rattle.std.proofs.Common.{[], ◌∷◌, ◌++◌, cond, map, set, get_or, le-leb, length, take, refl, sym, ap, ◌∙◌, subst}
+use Rattle.std.proofs.Common.{arith}
 use Rattle.std.specs.Prelude.{None, Some}
 use mathlib.Core.Option.{some}
 use lib.ListN.{get_elem?}
-use Rattle.atomic_table.specs.Seated.{TableId}
 use Rattle.atomic_table.specs.Table.{Allows, Me, State, carried_after}
 use Rattle.atomic_table.proofs.Lists.{at_map}
 use Rattle.nr_model.specs.Histories.{Entry}
-use Rattle.nr_model.specs.Maps.{call_key, reply_to, state_of}
+use Rattle.nr_model.specs.Maps.{call_key, state_of}
 use Rattle.nr_model.specs.declared.rows.Row.{Row}
 use Rattle.nr_model.specs.declared.calls.Call.{Call}
 use Rattle.nr_model.specs.declared.calls.Reply.TheVariants as reply
@@ -30,9 +29,9 @@ use Rattle.nr_core.specs.Roles.{held, holds, is_by, is_writer, taken, is_reader}
 use Rattle.nr_words.specs.KeyWords.{naming, same_count}
 use Rattle.nr_core.specs.Slots.{content, departures, bound_of, layout, name_number, slot_room}
 use Rattle.nr_core.specs.States.{key_of, retired_at}
-use Rattle.nr_core.specs.Steps.{CanStep, Goes, Looks, Stepped, Telling}
+use Rattle.nr_core.specs.Steps.{Goes, Looks, Stepped, Telling}
 use Rattle.nr_core.specs.Story.{call_of, ending, ending_at, map_after}
-use Rattle.nr_core.specs.Writer.{ended, looked, moved_to, swapped, went}
+use Rattle.nr_core.specs.Writer.{looked, moved_to, went}
 use Rattle.nr_core.specs.declared.calls.NoSlot.{NoSlot}
 use Rattle.nr_core.specs.declared.calls.Step.{Step}
 use Rattle.nr_core.specs.declared.calls.Step.TheVariants.{Ended, Going}
@@ -65,15 +64,10 @@ use Rattle.std.proofs.lemmas.Bool.{leb-true}
 use Rattle.nr_board.proofs.Moves.{ActsGo, NamesGo, learned, learning, names_go}
 use Rattle.nr_board.specs.Entries.{AreCallers, acts_told, to_depart}
 use Rattle.nr_board.proofs.Shortage.{Shortage, go_short, lacks_so, look_short, room_at}
-use Rattle.nr_board.specs.Callers.{caller_of}
-use Rattle.nr_board.specs.Plays.{Advances, Finds, Lacks, Leads, Looked, NotesTell, Put, SwapsAt, SwapsOrPuts, Room}
-use Rattle.nr_board.specs.Plays.{Went, call_at, next_put, put_place}
+use Rattle.nr_board.specs.Plays.{Advances, Finds, Leads, Looked, NotesTell, Put, SwapsAt, SwapsOrPuts, Room, Went}
+use Rattle.nr_board.specs.Plays.{call_at, next_put, put_place}
 use Rattle.nr_board.specs.Rule.{Fits, Kept, counts, marks_of, role_of}
 use Rattle.nr_board.specs.Views.{View, desk_of, grip_of, caller_number}
-
--- the writer's own entries are told by 0
-writer_is : (role : Role) (desk : Desk) → role ≡ Writer desk → is_by (caller_number role) role ≡ true
-writer_is role desk is = ap (λ r. is_by (caller_number r) r) is
 
 pub writer_shape : (shape : Shape) (log : List Entry) (view : View) (desk : Desk) → view.role ≡ Writer desk
     → Fits shape log view → view.shape ≡ shape
@@ -139,7 +133,7 @@ module
       → Choice shape id view operation tells notes state kept step marked then
   writes then tell =
       learning kept at step marked (ap caller_number role_told ∙ sym (ap caller_number is))
-      sized callers_told acts_told_so names then (writer_is view.role desk is) no_news (ending call outcome.1)
+      sized callers_told acts_told_so names then (ap (λ r. is_by (caller_number r) r) is) no_news (ending call outcome.1)
       entries_told tell
 
   -- to which the call leads, whatever the desk
@@ -163,7 +157,7 @@ looks_so shape slots id me desk call is idle given near =
     let then : ℕ → View → Type 0
     = λ found next. (other : Desk) → view.role ≡ Writer other → Looked other call found view next in
     lifts shape id view operation tells notes slots me.1 then view.pasts
-    (subst (λ r. CanStep shape id r operation tells) (sym is) (looks shape id desk call idle given near))
+    (rw is (looks shape id desk call idle given near))
     (looks_marked role_of marks_of shape id view view.pasts desk call idle near is) (knows_pasts shape id view)
     (sees_plain shape id view operation tells notes then (key_inside shape (key_of call) near)
     (key_no_count shape (key_of call) near)
@@ -199,11 +193,9 @@ went_quiet shape marks known desk other word after log now news told = told.1
 
 -- a list that is changed at one place
 changed_at : (l : List ℕ) (place x at n : ℕ) → get_or (set l place x) at 0 ≡ n → (get_or l at 0 ≡ n) ⊎ (x ≡ n)
-changed_at [] place x at n is = inl is
 changed_at (y ∷ l) zero x zero n is = inr is
-changed_at (y ∷ l) zero x (suc at) n is = inl is
-changed_at (y ∷ l) (suc place) x zero n is = inl is
 changed_at (y ∷ l) (suc place) x (suc at) n is = changed_at l place x at n is
+changed_at l place x at n is = inl is
 
 -- after a later step of a call a key names what it named before, or the slot into which the call put its set
 went_names : (shape : Shape) (marks : Marks) (known : List Past) (desk : Desk) (place : Place) (word : ℕ) (after : Role)
@@ -373,7 +365,7 @@ goes_so shape slots id me desk is busy heard in_order =
     let then : ℕ → View → Type 0
     = λ found next. (other : Desk) → view.role ≡ Writer other → Went other found view next in
     lifts shape id view operation tells notes slots me.1 then view.pasts
-    (subst (λ r. CanStep shape id r operation tells) (sym is) (goes shape id desk busy))
+    (rw is (goes shape id desk busy))
     (goes_marked role_of marks_of shape id view view.pasts desk is busy in_order) (knows_pasts shape id view)
     (λ state kept at step.
     let there = at_map role_of state.views id view at ∙ ap some is in
@@ -439,18 +431,14 @@ put_leads : (desk : Desk) (call : WriterCall) (rows : List Row) (slot departed i
     → Put desk old new
 put_leads desk call rows slot departed index found old new is low went_so =
     let after : Desk × Step = (moved_to desk (Putting call rows slot departed (index + 1)), Going) in
-    let outcome : went old.shape desk desk.place found ≡ after = ap (λ (p : Place). went old.shape desk p found) is
-    ∙ ap (λ (b : Bool). cond {A = Desk × Step} b after (swapped desk found, ended reply.Done))
-    (le-leb index (2 * length rows) low) in
+    let outcome : went old.shape desk desk.place found ≡ after = rw (is, le-leb index (2 * length rows) low) in
     let next : next_put desk ≡ after.0 = ap (λ (p : Place). moved_to desk (put_place p)) is in
     let leads = went_so.leads in record {
       role = leads.role ∙ ap (λ (o : Desk × Step). Writer o.0) outcome ∙ sym (ap Writer next);
       advances = rw (ap (λ (o : Desk × Step). o.1) outcome) at leads.advances;
       room = subst (Room old.shape) (ap (λ (o : Desk × Step). o.0) outcome ∙ sym next) leads.room;
       numbers = rw outcome at leads.numbers;
-      marks = (rw (le-leb index (2 * length rows) low) at
-          (subst (λ (p : Place). went_marks old.shape old.marks old.pasts desk p found new.role new.seen
-          new.marks []) is went_so.marks)).0;
+      marks = (rw (is, le-leb index (2 * length rows) low) at went_so.marks).0;
       heard = went_so.heard;
     }
 
@@ -463,16 +451,11 @@ pub puts_so : (shape : Shape) (slots id : ℕ) (me : Me (Unit {0}) View) (desk :
 puts_so shape slots id me desk call rows slot departed index is place_is low =
     let at = moved_to desk (Putting call rows slot departed index) in
     let word : ℕ = get_or (encode rows) index 0 in
-    let operation =
-    ap
-    (λ (b : Bool). cond {A = Operation} b (Store (content shape slot index) word)
-    (Swap (key_of call) (naming slot departed)))
-    (le-leb index (2 * length rows) low) in
     let at_is : me.0.role ≡ Writer at = is ∙ (λ j. Writer (record desk { place = place_is j })) in
     let told : ℕ → Me (Unit {0}) View → Type 0
     = λ found after. (other : Desk) → me.0.role ≡ Writer other → Went other found me.0 after.0 in
     let allows
-    = rw operation at (goes_so shape slots id me at at_is refl tt tt) in
+    = rw (le-leb index (2 * length rows) low) at (goes_so shape slots id me at at_is refl tt tt) in
     tells_also (Kept shape) slots id me (content shape slot index) (λ _. word) told
     (λ _ after. (other : Desk) → me.0.role ≡ Writer other → Put other me.0 after.0)
     (λ found after so other also. put_leads other call rows slot departed index found me.0 after.0
