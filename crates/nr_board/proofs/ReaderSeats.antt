@@ -191,14 +191,6 @@ module _ (table : Table) (before after : MapSeat) (same : after.table_id ≡ bef
       (λ full. (seat_grows before after _ same (told.named full)).table)
       (λ empty. (seat_grows before after _ same (told.hole empty)).table)
 
-  pub looked_hole : (key found : ℕ) → LookedUp key found before.me.0 after.me.0 → is_filled found ≡ false
-      → Gains 1 (model.Find key) (token before) (token after) reply.Hole
-  looked_hole key found told empty = seat_grows before after _ same (told.hole empty)
-
-  pub looked_named : (key found : ℕ) → LookedUp key found before.me.0 after.me.0 → is_filled found ≡ true
-      → Grows 1 [] (token before) (token after)
-  looked_named key found told full = seat_grows before after _ same (told.named full)
-
   pub looked_idle : (key found : ℕ) → IdlesAt table before → LookedUp key found before.me.0 after.me.0
       → IdlesAt table after
   looked_idle key found idles told =
@@ -218,9 +210,6 @@ module _ (table : Table) (before after : MapSeat) (same : after.table_id ≡ bef
 
   said_idle : (says : ℕ) → Said says before.me.0 after.me.0 → IsIdle after.me.0.role
   said_idle says told = told.role ∙ ap (λ (n : ℕ). Reader n Nothing) (sym (ap caller_number told.role))
-
-  pub said_rests : (says : ℕ) → Said says before.me.0 after.me.0 → Rests 1 (token before) (token after)
-  said_rests says told = seat_rests before after same told.waits
 
   pub said_announces : (slot says : ℕ) → (token before).table ≡ table → says ≡ suc slot
       → Said says before.me.0 after.me.0 → AnnouncesAt table slot after

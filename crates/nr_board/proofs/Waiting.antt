@@ -1,15 +1,14 @@
 -- A call that reads what its taken slot had stands as if it had made these steps before it looked for the slot: they
 -- tell it nothing.
-use Rattle.std.proofs.Common.{◌≡◌, ℕ, ◌+◌, ◌++◌, ◌∙◌, List, refl, sym, ap, subst, arith}
+use Rattle.std.proofs.Common.{◌≡◌, ℕ, ◌+◌, ◌∙◌, List, refl, sym, ap, arith}
 use Rattle.nr_model.specs.Histories.{Entry}
 use Rattle.nr_model.specs.declared.rows.Row.{Row}
-use Rattle.nr_core.specs.Core.{AreNumbers}
 use Rattle.nr_core.specs.SlotLists.{SlotLists}
 use Rattle.nr_core.specs.declared.calls.WriterCall.{WriterCall}
 use Rattle.nr_core.specs.declared.roles.Desk.{Desk}
-use Rattle.nr_core.specs.Marks.{Marks, with_scan, set_in}
+use Rattle.nr_core.specs.Marks.{Marks, set_in}
 use Rattle.nr_board.specs.Begins.{HasSet}
-use Rattle.nr_board.specs.Callers.{Caller, Grows, Table, caller_of, map_seen, token}
+use Rattle.nr_board.specs.Callers.{Caller, Grows, Table, caller_of, token}
 use Rattle.nr_board.specs.Meetings.{with_steps}
 use Rattle.nr_board.specs.Recalls.{later, waited}
 use Rattle.nr_board.specs.Views.{View}
@@ -45,9 +44,7 @@ writes_later table desk mid new steps same waits writes = record {
   own = (λ j. record { id = same j; shape = (waits j).shape; announcers = (waits j).announcers }) ∙ writes.own;
   role = ap (λ (v : View). v.role) waits ∙ writes.role;
   room = writes.room;
-  numbers =
-      subst (λ (caller : Caller). AreNumbers table.shape (map_seen caller) desk.numbers)
-      (sym (waited_token mid new steps same waits)) writes.numbers;
+  numbers = rw waits writes.numbers;
 }
 
 -- the slot is taken still
@@ -68,9 +65,7 @@ takes_later table call rows slot departed lists after old mid new steps takes sa
   grows =
       rw (waited_token mid new steps same waits) (grows_counted takes.grows takes.steps (old.me.0.steps + steps) (mid.me.0.steps + steps)
       (omega (arith, takes.grows.steps_made)));
-  marks =
-      ap (λ (v : View). v.marks) waits ∙ takes.marks
-      ∙ ap (λ (v : View). with_scan old.me.0.marks v.marks.polls (old.me.0.marks.loads ++ takes.loads)) (sym waits);
+  marks = rw waits takes.marks;
 }
 
 -- what the call gives out, as contracts see it

@@ -289,11 +289,6 @@ module _ (shape : Shape) (slots id own says : ℕ) (me : Me (Unit {0}) View) (ha
       (λ s ne. omega (arith, change s, only-other s slot (λ e. ne (sym e))))
       (omega (arith, change slot, only-same slot, less, few)) kept.counts_words)
 
--- the same shape under another name
-pub holds_by_word : (shape other : Shape) (view : View) → shape ≡ other → IsIdle view.role ⊎ HoldsByWord shape view
-    → IsIdle view.role ⊎ HoldsByWord other view
-holds_by_word shape other view same = subst (λ (s : Shape). IsIdle view.role ⊎ HoldsByWord s view) same
-
 pub says_so : (shape : Shape) (slots id own says : ℕ) (me : Me (Unit {0}) View) → HasWord own me.0 → me.0.shape ≡ shape
     → IsIdle me.0.role ⊎ HoldsByWord shape me.0
     → let place = says_at shape own in
