@@ -76,7 +76,8 @@ look_up_makes shape id me key near idle sized =
     reads_on kept at step marked idle step.told.0 marked.told.1 step.told.1
     (rw marked.told.0
     (by_cases
-    (λ b. (cond {A = Marks} b (looked found) (acted (looked found) (put_number (kept.log ++ step.entries) key))).acts + 0
+    (λ b. (cond {A = Marks} b (looked found)
+    (acted (looked found) (put_number (kept.log ++ step.entries) key))).acts + 0
     ≡ view.marks.acts + 0 + acts_told (cond {A = List Entry} b [] (e ∷ [])))
     filled (λ _. omega arith) (λ _. omega arith)))
     (λ next. LookedUp key found view next)

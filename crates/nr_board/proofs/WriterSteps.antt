@@ -10,7 +10,6 @@ use Rattle.nr_model.specs.Histories.{Entry}
 use Rattle.nr_model.specs.Maps.{call_key, state_of}
 use Rattle.nr_model.specs.declared.rows.Row.{Row}
 use Rattle.nr_model.specs.declared.calls.Call.{Call}
-use Rattle.nr_model.specs.declared.calls.Reply.TheVariants as reply
 use Rattle.nr_words.specs.SetWords.{encode}
 use Rattle.nr_core.proofs.Go.{goes}
 use Rattle.nr_core.proofs.Look.{looks}
@@ -24,7 +23,7 @@ use Rattle.nr_core.specs.Operations.{becomes, going, target_of}
 use Rattle.nr_core.specs.declared.operation.Operation.{Operation}
 use Rattle.nr_core.specs.declared.operation.Operation.TheVariants.{Load, Store, Swap}
 use Rattle.nr_core.specs.Refusals.{if_not_busy}
-use Rattle.nr_core.specs.Roles.{held, holds, is_by, is_writer, taken, is_reader}
+use Rattle.nr_core.specs.Roles.{held, holds, is_by, is_writer, is_reader}
 use Rattle.nr_words.specs.KeyWords.{naming, same_count}
 use Rattle.nr_core.specs.Slots.{content, departures, bound_of, layout, name_number, slot_room}
 use Rattle.nr_core.specs.States.{key_of, retired_at}
@@ -65,7 +64,7 @@ use Rattle.nr_board.specs.Entries.{AreCallers, acts_told, to_depart}
 use Rattle.nr_board.proofs.Shortage.{Shortage, go_short, lacks_so, look_short, room_at}
 use Rattle.nr_board.specs.Plays.{Advances, Finds, Leads, Looked, NotesTell, Put, SwapsAt, SwapsOrPuts, Room, Went}
 use Rattle.nr_board.specs.Plays.{call_at, next_put, put_place}
-use Rattle.nr_board.specs.Rule.{Fits, Kept, counts, marks_of, role_of}
+use Rattle.nr_board.specs.Rule.{Fits, Kept, marks_of, role_of}
 use Rattle.nr_board.specs.Views.{View, desk_of, grip_of, caller_number}
 
 pub writer_shape : (shape : Shape) (log : List Entry) (view : View) (desk : Desk) → view.role ≡ Writer desk
@@ -132,8 +131,8 @@ module
       → Choice shape id view operation tells notes state kept step marked then
   writes then tell =
       learning kept at step marked (ap caller_number role_told ∙ sym (ap caller_number is))
-      sized callers_told acts_told_so names then (ap (λ r. is_by (caller_number r) r) is) no_news (ending call outcome.1)
-      entries_told tell
+      sized callers_told acts_told_so names then (ap (λ r. is_by (caller_number r) r) is) no_news
+      (ending call outcome.1) entries_told tell
 
   -- to which the call leads, whatever the desk
   pub leads_on : ShortSo → (then : Desk → View → Type 0) → (Leads call outcome view next_view → then desk next_view)
