@@ -63,7 +63,8 @@ takes_later table call rows slot departed lists after old mid new steps takes sa
   reaped = takes.reaped;
   writes = writes_later table _ mid new steps same waits takes.writes;
   grows =
-      rw (waited_token mid new steps same waits) (grows_counted takes.grows takes.steps (old.me.0.steps + steps) (mid.me.0.steps + steps)
+      rw (waited_token mid new steps same waits)
+      (grows_counted takes.grows takes.steps (old.me.0.steps + steps) (mid.me.0.steps + steps)
       (omega (arith, takes.grows.steps_made)));
   marks = rw waits takes.marks;
 }
