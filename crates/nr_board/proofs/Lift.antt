@@ -214,7 +214,9 @@ module _ (shape : Shape) (id : ℕ) (view : View) (operation : Operation) (tells
         silent = λ caller later.
             let z = kept.fresh caller later in
             let part = term_le (counts caller) (map role_of views) id view.role there in
-            let none = step.own caller ∙ ap (λ y. cond y step.entries []) (uncounted (is_by caller view.role) (omega arith)) in
+            let none
+            = step.own caller
+            ∙ ap (λ y. cond y step.entries []) (uncounted (is_by caller view.role) (omega arith)) in
             of-append caller kept.log step.entries ∙ ap (λ (l : List Entry). entries_of kept.log caller ++ l)
             none ∙ append-nil (entries_of kept.log caller)
             ∙ kept.silent caller later;
