@@ -1,7 +1,6 @@
 -- The call that ends brings a row set of the map: each was given one, and so the set that a call wants at its key is
 -- the one that it brings.
-use Rattle.std.proofs.Common.{◌≡◌, ℕ, ◌+◌, ◌*◌, ◌<◌, ◌==◌, Bool, true, false, if◌then◌else◌, List, length, inl, refl}
-use Rattle.std.proofs.Common.{sym, ap, subst}
+use Rattle.std.proofs.Common.{◌≡◌, ℕ, ◌+◌, ◌*◌, ◌<◌, ◌==◌, List, length, inl, refl, sym, ap, subst}
 use Rattle.std.specs.Prelude.{None, Some, Option, slice_index}
 use Rattle.nr_model.specs.declared.rows.Row.{Row}
 use Rattle.nr_model.specs.declared.calls.Call.{Call}
@@ -14,18 +13,18 @@ use Rattle.nr_model.specs.Maps.{PartialMap, call_key, number_of, replace_reply, 
 use Rattle.nr_model.specs.Maps.{state_of}
 use Rattle.nr_model.specs.Rows.{IsRowSet}
 use Rattle.nr_words.specs.SetWords.{decode}
+use Rattle.nr_core.proofs.Choices.{on_test}
 use Rattle.nr_core.specs.declared.calls.Step.{Step}
 use Rattle.nr_core.specs.declared.calls.Step.TheVariants.{Ended, Going}
 use Rattle.nr_core.specs.declared.calls.WReply.TheVariants as writer
 use Rattle.nr_core.specs.declared.calls.WriterCall.{WriterCall}
-use Rattle.nr_core.specs.declared.calls.WriterCall.TheVariants.{Find, Fill, Update, Replace, Evict, Cancel}
-use Rattle.nr_core.specs.declared.places.Place.TheVariants.{Reading}
+use Rattle.nr_core.specs.declared.calls.WriterCall.TheVariants.{Fill, Replace}
 use Rattle.nr_core.specs.declared.roles.Desk.{Desk}
 use Rattle.nr_core.specs.declared.shape.Shape.{Shape}
 use Rattle.nr_core.specs.Given.{IsGivenCall}
 use Rattle.nr_core.specs.Slots.{bound_of}
 use Rattle.nr_core.specs.Story.{call_of, ending}
-use Rattle.nr_core.specs.Writer.{decided, decoded, moved_to, read_on}
+use Rattle.nr_core.specs.Writer.{decided, decoded, read_on}
 use Rattle.nr_core.specs.Core.{Wants}
 use Rattle.nr_board.specs.Entries.{AreCallers}
 use Rattle.nr_board.specs.NamedRows.{rows_of_state}
@@ -45,11 +44,9 @@ given_brings bound other given = tt
 fill_leaves : (bound key number : ℕ) (new rows : List Row) (state : KeyState)
     → reply_at bound (model.Fill key number new) state ≡ reply.Done
     → state_after bound (model.Fill key number new) state ≡ states.Rows (number_of state) rows → new ≡ rows
-fill_leaves bound key number new rows (states.Asked n) done leaves = of_test (n == number) leaves
-  where
-    of_test : (same : Bool) → (if same then states.Rows n new else states.Asked n) ≡ states.Rows n rows → new ≡ rows
-    of_test true is = ap rows_of_state is
-    of_test false is = absurd (cc)
+fill_leaves bound key number new rows (states.Asked n) done leaves =
+    on_test (λ (s : KeyState). s ≡ states.Rows n rows → new ≡ rows) (n == number) (λ _ is. ap rows_of_state is)
+    (λ _ is. absurd (cc)) leaves
 fill_leaves bound key number new rows other done leaves = absurd (cc)
 
 -- and so of a replacement
@@ -71,33 +68,21 @@ wants_brings shape words map hold other rows wants = tt
 quiet_read : (shape : Shape) (desk : Desk) (call : WriterCall) (slot : ℕ) (got : List ℕ)
     → ((found : List Row) → (decided shape desk call found).1 ≡ Going)
     → AreCallers shape (ending (call_of call) (read_on shape desk call slot got).1)
-quiet_read shape desk call slot got quiet = by_length (length got == 2 * slice_index got 0 + 1)
+quiet_read shape desk call slot got quiet =
+    on_test (λ (o : Desk × Step). AreCallers shape (ending (call_of call) o.1))
+    (length got == 2 * slice_index got 0 + 1) (λ _. by_set (decode got)) (λ _. tt)
   where
     by_set : (set : Option (List Row)) → AreCallers shape (ending (call_of call) (decoded shape desk call set).1)
     by_set None = tt
     by_set (Some found) = subst (λ (step : Step). AreCallers shape (ending (call_of call) step)) (sym (quiet found)) tt
 
-    by_length : (whole : Bool)
-        → AreCallers shape
-        (ending (call_of call)
-        (if whole then decoded shape desk call (decode got) else
-        (moved_to desk (Reading call slot got), Going)).1)
-    by_length true = by_set (decode got)
-    by_length false = tt
-
 -- only finds and updates read
 pub reads_no_fill : (shape : Shape) (desk : Desk) (call : WriterCall) (slot : ℕ) (got : List ℕ)
     → call_key (call_of call) < shape.keys
     → AreCallers shape (ending (call_of call) (read_on shape desk call slot got).1)
-reads_no_fill shape desk (Find key) slot got near =
-    writer_entries shape (model.Find key) (read_on shape desk (Find key) slot got).1 near tt
 reads_no_fill shape desk (Fill key number rows) slot got near =
     quiet_read shape desk (Fill key number rows) slot got (λ found. refl)
 reads_no_fill shape desk (Replace key rows) slot got near =
     quiet_read shape desk (Replace key rows) slot got (λ found. refl)
-reads_no_fill shape desk (Update key batch) slot got near =
-    writer_entries shape (model.Update key batch) (read_on shape desk (Update key batch) slot got).1 near tt
-reads_no_fill shape desk (Evict key) slot got near =
-    writer_entries shape (model.Evict key) (read_on shape desk (Evict key) slot got).1 near tt
-reads_no_fill shape desk (Cancel key) slot got near =
-    writer_entries shape (model.Cancel key) (read_on shape desk (Cancel key) slot got).1 near tt
+reads_no_fill shape desk call slot got near =
+    writer_entries shape (call_of call) (read_on shape desk call slot got).1 near tt

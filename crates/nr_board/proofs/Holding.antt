@@ -163,7 +163,7 @@ module _ (table : Table) (key word newer : ℕ) (before mid : MapSeat)
       let told
       = answered_rested table key 1 (n + 0) (1 + n) (looked marks key named) mid idle last (omega arith) answer
       rests
-      (subst (λ (m : Marks). IsAnswered table key (n + 0) m idle last answer) marks_now arrives.answered) in
+      (rw marks_now at arrives.answered) in
       record {
         steps = 3 + n;
         named = named;
@@ -193,10 +193,7 @@ moves_anew table key word own empty before mid after answer holds has rests clea
     record {
       steps = n;
       named = named;
-      takes =
-          subst
-          (λ (p : Bool × Bool). TakesSteps p.0 answer (cond {A = List ℕ} p.1 (name_number word ∷ []) [] ++ named) n)
-          (λ j. (finds_so own mid has.number has.within j, sym empty j)) told.takes;
+      takes = rw empty (rw (finds_so own mid has.number has.within) at told.takes);
       answered =
           rw empty
           (answered_rested table key 1 (n + 0) (n + 2 - 1) (looked marks key named) before mid after (omega arith)
@@ -214,9 +211,7 @@ moves_on table key word full before after answer holds told = let n : ℕ = told
     record {
       steps = 1 + n;
       named = named;
-      takes =
-          subst (λ (p : Bool × ℕ). TakesSteps true answer (cond {A = List ℕ} p.0 (p.1 ∷ []) [] ++ named) (1 + n))
-          (λ j. (sym full j, sym named_is j)) told.takes;
+      takes = rw (named_is, full) told.takes;
       answered =
           rw full (rw (held_marks table.shape before.me.0.role before.me.0.marks holds) at (rw ((let same : n ≡ 1 + n +
           0 - 1 = omega arith in same)) at told.answered));

@@ -1,6 +1,6 @@
 -- Notes of a search: what the noted reader held stays so.
-use Rattle.std.proofs.Common.{◌≡◌, ◌≢◌, ℕ, ◌+◌, ◌≤◌, ⊎_elim, inl, inr, List, [], ◌∷◌, ◌++◌, length, refl, sym}
-use Rattle.std.proofs.Common.{ap, ◌∙◌, suc, zero, append_assoc, append-nil, arith}
+use Rattle.std.proofs.Common.{◌≡◌, ◌≢◌, ℕ, ◌+◌, ◌≤◌, ⊎_elim, inl, inr, List, [], ◌∷◌, ◌++◌, length, refl, sym, ap, ◌∙◌}
+use Rattle.std.proofs.Common.{suc, zero, append-nil, arith}
 use Rattle.std.specs.Prelude.{Some}
 use mathlib.Core.Option.{some}
 use mathlib.Core.Logic.{dite}
@@ -12,6 +12,7 @@ use Rattle.nr_core.proofs.Sums.{only-is, only-le, only-other, some_term, total-a
 use Rattle.nr_core.specs.Sums.{only, total}
 use Rattle.nr_core.specs.Marks.{LoggedLoad, Past}
 use Rattle.nr_core.specs.declared.places.Retired.{Retired}
+use Rattle.nr_board.proofs.Tokens.{starts_through}
 use Rattle.nr_board.specs.Entries.{acts_told, to_depart}
 use Rattle.nr_board.specs.Plays.{NotesTell}
 use Rattle.nr_board.specs.Polls.{HeldThen, KeptBack, KeptThen, SaidThen}
@@ -34,18 +35,10 @@ at_behind (x ∷ l) m at =
 -- what was held at a poll was so between histories that lie further apart
 pub held_within : {before mid last after : List Entry} {slot : ℕ} {note : Past} → StartsWith mid before
     → StartsWith after last → HeldThen mid last slot note → HeldThen before after slot note
-held_within {before = before} begun more held = record {
+held_within begun more held = record {
   log = held.log;
-  since = record {
-    rest = begun.rest ++ held.since.rest;
-    is = held.since.is ∙ ap (λ (l : List Entry). l ++ held.since.rest) begun.is
-        ∙ append_assoc before begun.rest held.since.rest;
-  };
-  until = record {
-    rest = held.until.rest ++ more.rest;
-    is = more.is ∙ ap (λ (l : List Entry). l ++ more.rest) held.until.is
-        ∙ append_assoc held.log held.until.rest more.rest;
-  };
+  since = starts_through begun held.since;
+  until = starts_through held.until more;
   holds = held.holds;
   count = held.count;
 }

@@ -13,7 +13,6 @@ pub mod Seats
 pub mod Notes
 pub mod Learning
 pub mod TwoSeats
-pub mod HearsNotes
 pub mod Gathering
 pub mod Opens
 pub mod Tokens
@@ -21,9 +20,7 @@ pub mod Rows
 pub mod LaterRows
 pub mod BoardPlaces
 pub mod ReaderSeats
-pub mod WordSeats
 pub mod Holding
-pub mod Room
 pub mod Shortage
 pub mod Brings
 pub mod WriterSteps
@@ -38,15 +35,11 @@ pub mod Passes
 pub mod Flagging
 pub mod RetiredSearch
 pub mod SearchSteps
-pub mod Polled
 pub mod WriterSeats
 pub mod Searching
 pub mod Publishing
-pub mod Recalling
 pub mod ReadingOn
-pub mod SetRooms
 pub mod KeySets
-pub mod Retiring
 pub mod Looks
 pub mod WriterCalls
 pub mod Sweeps

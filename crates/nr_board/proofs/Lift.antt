@@ -1,7 +1,6 @@
 -- A step of the core is a step on the table: one lemma over all kinds of step.
 use Rattle.std.proofs.Common.{◌≡◌, ◌+◌, length-set, ℕ, ◌<◌, ◌≤◌, ◌≢◌, ◌^◌, get_or-set_other, List, [], ◌++◌, map, set}
-use Rattle.std.proofs.Common.{get_or, cond, Bool, true, false, refl, sym, ap, ◌∙◌, subst, arith, append_assoc}
-use Rattle.std.proofs.Common.{append-nil}
+use Rattle.std.proofs.Common.{get_or, cond, Bool, true, false, refl, sym, ap, ◌∙◌, subst, arith, append-nil}
 use mathlib.Core.Option.{some}
 use lib.ListN.{get_elem?}
 use lib.Seq.{map-set, set-get_or}
@@ -23,6 +22,7 @@ use Rattle.nr_core.specs.Marked.{AllSince, CanMark, MarkTelling, Remarked}
 use Rattle.nr_core.specs.Marks.{Past}
 use Rattle.nr_board.proofs.Entries.{callers_both}
 use Rattle.nr_board.proofs.OneView.{at_any}
+use Rattle.nr_board.proofs.Tokens.{starts_more}
 use Rattle.nr_board.specs.Entries.{AreCallers}
 use Rattle.nr_board.specs.Rule.{Fits, Kept, counts, marks_of, pasts_of, role_of, told_pasts_of}
 use Rattle.nr_board.specs.Views.{View}
@@ -44,21 +44,20 @@ Table = State (Unit {0}) View
 other_fits : (shape : Shape) (log entries : List Entry) (view : View) → Fits shape log view
     → ((caller : ℕ) → is_by caller view.role ≡ true → entries_of entries caller ≡ []) → Fits shape (log ++ entries) view
 other_fits shape log entries view fits none = record {
-  begins = record {
-    rest = fits.begins.rest ++ entries;
-    is = ap (λ (l : List Entry). l ++ entries) fits.begins.is ∙ append_assoc view.seen fits.begins.rest entries;
-  };
+  begins = starts_more fits.begins entries;
+  told = starts_more fits.told entries;
   own = λ caller his. of-append caller log entries
       ∙ ap (λ (l : List Entry). entries_of log caller ++ l) (none caller his) ∙ append-nil (entries_of log caller)
       ∙ fits.own caller his;
-  told = record {
-    rest = fits.told.rest ++ entries;
-    is = ap (λ (l : List Entry). l ++ entries) fits.told.is ∙ append_assoc view.told fits.told.rest entries;
-  };
   knows_own = fits.knows_own;
   acts = fits.acts;
   sized = fits.sized;
 }
+
+-- who is not counted is not that caller
+uncounted : (is : Bool) → cond is 1 0 ≤ 0 → is ≡ false
+uncounted true low = absurd (omega arith)
+uncounted false low = refl
 
 -- whether the caller of one token, another token is not that caller
 pub apart : (shape : Shape) (state : Table) → Kept shape state → (id other : ℕ) (view viewed : View) (caller : ℕ)
@@ -71,10 +70,7 @@ apart shape state kept id other view viewed caller at there ne his =
     (at_map role_of state.views id view at) (at_map role_of state.views other viewed there) in
     let most = kept.once caller in
     let one : counts caller viewed.role ≡ 1 = ap (λ y. cond y 1 0) his in
-    let F : Bool → Type 0 = λ y. cond y 1 0 ≤ 0 → y ≡ false in
-    let small : counts caller view.role ≤ 0 = omega arith in
-    let by_cases : (y : Bool) → F y = λ y. elim y as F [ true ↦ λ h. absurd (omega arith) | false ↦ λ h. refl ] in
-    by_cases (is_by caller view.role) small
+    uncounted (is_by caller view.role) (omega arith)
 
 -- what the token knows of readers is so since then
 pub knows_pasts : (shape : Shape) (id : ℕ) (view : View) (state : Table) → Kept shape state
@@ -218,14 +214,11 @@ module _ (shape : Shape) (id : ℕ) (view : View) (operation : Operation) (tells
         silent = λ caller later.
             let z = kept.fresh caller later in
             let part = term_le (counts caller) (map role_of views) id view.role there in
-            let no : (y : Bool) → cond y 1 0 ≤ 0 → entries_of step.entries caller ≡ cond y step.entries []
-            → entries_of step.entries caller ≡ []
-            = λ y.
-            elim y as (λ y'. cond y' 1 0 ≤ 0 → entries_of step.entries caller ≡ cond y' step.entries []
-            → entries_of step.entries caller ≡ [])
-            [ true ↦ λ q _. absurd (omega arith) | false ↦ λ _ q. q ] in
+            let none
+            = step.own caller
+            ∙ ap (λ y. cond y step.entries []) (uncounted (is_by caller view.role) (omega arith)) in
             of-append caller kept.log step.entries ∙ ap (λ (l : List Entry). entries_of kept.log caller ++ l)
-            (no (is_by caller view.role) (omega arith) (step.own caller)) ∙ append-nil (entries_of kept.log caller)
+            none ∙ append-nil (entries_of kept.log caller)
             ∙ kept.silent caller later;
         marked = marked.marked next follows.role follows.marks;
         pasts = known.0;

@@ -1,6 +1,6 @@
 -- What a step does to its token's own view: it learns the history so far and adds entries, or it learns nothing.
 use Rattle.std.proofs.Common.{◌≡◌, ℕ, suc, get_or, inl, ◌⊎◌, ◌<◌, ◌+◌, List, [], ◌++◌, map, cond, true, refl, sym, ap}
-use Rattle.std.proofs.Common.{◌∙◌, subst, arith, append_assoc, append-nil}
+use Rattle.std.proofs.Common.{◌∙◌, subst, arith, append-nil}
 use mathlib.Core.Option.{some}
 use lib.ListN.{get_elem?}
 use Rattle.atomic_table.specs.Table.{State}
@@ -17,6 +17,7 @@ use Rattle.nr_core.specs.Marked.{MarkTelling, Remarked}
 use Rattle.nr_core.specs.Marks.{Marks, Past, gripped}
 use Rattle.nr_board.specs.Rule.{Fits, Kept, marks_of, role_of}
 use Rattle.nr_board.proofs.Lift.{Choice, Follows}
+use Rattle.nr_board.proofs.Tokens.{starts_more}
 use Rattle.nr_board.proofs.Heard.{forgets, hears_as}
 use Rattle.nr_board.proofs.Entries.{callers_both}
 use Rattle.nr_board.specs.Entries.{AreCallers, acts_at, acts_told, to_depart}
@@ -80,12 +81,7 @@ module _ (shape : Shape) (log : List Entry) (view : View) (fits : Fits shape log
       → Fits shape (log ++ entries) (learned view after (log ++ entries) entries marks news)
   learned_fits entries marks news own acts = let all = learned_own entries own in record {
     begins = record { rest = []; is = sym (append-nil (log ++ entries)) };
-    told =
-        record {
-          rest = fits.told.rest ++ entries;
-          is = ap (λ (l : List Entry). l ++ entries) fits.told.is
-              ∙ append_assoc view.told fits.told.rest entries;
-        };
+    told = starts_more fits.told entries;
     own = all;
     knows_own = all;
     acts = λ reads. omega (

@@ -1,16 +1,15 @@
--- A set is put word by word, and published.
-use Rattle.std.proofs.Common.{◌≡◌, ℕ, ◌+◌, ◌*◌, ◌≤◌, List, [], ◌++◌, Bool, cond, false, true, get_or, length, set, refl}
-use Rattle.std.proofs.Common.{sym, ap, ◌∙◌, subst, arith}
-use Rattle.std.specs.Prelude.{slice_set}
+-- A set is put word by word, and published; and what a call that swapped in another word retires, by the word that its
+-- key had.
+use Rattle.std.proofs.Common.{◌≡◌, ℕ, ◌+◌, ◌*◌, ◌≤◌, List, [], ◌++◌, Bool, false, true, get_or, length, set, refl, sym}
+use Rattle.std.proofs.Common.{ap, ◌∙◌, subst, arith, append-nil}
+use Rattle.std.specs.Prelude.{slice_set, nat_lt}
 use Rattle.std.proofs.lemmas.Bool.{lt-leb}
 use Rattle.std.proofs.lemmas.List.{set-set}
 use Rattle.nr_model.specs.declared.calls.Reply.TheVariants as reply
 use Rattle.nr_model.specs.declared.rows.Row.{Row}
 use Rattle.nr_model.specs.Histories.{Entry, IsLegal}
-use Rattle.nr_core.specs.Story.{call_of, ending}
-use Rattle.nr_core.specs.Writer.{ended, moved_to, swapped, unnamed}
-use Rattle.nr_core.specs.declared.calls.Step.{Step}
-use Rattle.nr_core.specs.declared.calls.Step.TheVariants.{Going}
+use Rattle.nr_core.specs.Story.{call_of}
+use Rattle.nr_core.specs.Writer.{moved_to, unnamed}
 use Rattle.nr_core.specs.declared.calls.WriterCall.{WriterCall}
 use Rattle.nr_core.specs.declared.places.Place.TheVariants.{Idle, Putting}
 use Rattle.nr_core.specs.declared.roles.Desk.{Desk}
@@ -25,10 +24,23 @@ use Rattle.nr_core.specs.SlotLists.{SlotLists}
 use Rattle.nr_board.specs.SlotLists.{desk_with}
 use Rattle.nr_core.specs.Marks.{Marks, with_name, with_scan}
 use Rattle.nr_core.specs.States.{key_of}
-use Rattle.nr_board.specs.WriterSeats.{GoesOn, IsPutting, LeadsIn, MapSeat, PublishesSet, PutsTo, TakesSlot}
-use Rattle.nr_board.specs.WriterSeats.{WritesAt}
-use Rattle.nr_core.specs.Slots.{content}
+use Rattle.nr_board.specs.WriterSeats.{GoesOn, IsPutting, MapSeat, PublishesSet, PutsTo, TakesSlot, WritesAt}
+use Rattle.nr_core.specs.Slots.{content, name_number}
 use Rattle.nr_words.specs.SetWords.{encode}
+use Rattle.nr_model.specs.declared.batches.Delta.{Delta}
+use Rattle.nr_model.specs.declared.states.KeyState.{KeyState}
+use Rattle.nr_model.specs.declared.states.KeyState.TheVariants as states
+use Rattle.nr_model.specs.Maps.{PartialMap, cancel_reply, evict_reply, fill_reply, find_reply, last_number}
+use Rattle.nr_model.specs.Maps.{replace_reply, reply_to, state_of, update_reply}
+use Rattle.nr_words.specs.KeyWords.{arrivals_of, is_filled, slot_of}
+use Rattle.nr_core.proofs.Choices.{on_test}
+use Rattle.nr_core.specs.declared.calls.WriterCall.TheVariants.{Cancel, Evict, Fill, Find, Replace, Update}
+use Rattle.nr_core.specs.declared.places.Retired.{Retired}
+use Rattle.nr_board.proofs.ReaderSeats.{filled_name, shown_filled}
+use Rattle.nr_board.specs.WriterAnswers.{Retires, RetiresOne}
+use Rattle.nr_board.specs.Kinds.{kind_of, kind_shown}
+use Rattle.nr_board.specs.declared.answers.KeyKind.TheVariants as kind
+use Rattle.nr_model.specs.declared.calls.Reply.{Reply}
 
 -- what the writer knows after a step is legal
 pub knows_after : (steps : ℕ) (old : Caller) (entries : List Entry) (new : Caller) → Grows steps entries old new
@@ -104,12 +116,10 @@ module
   published =
       let last : ℕ = 2 * length rows + 1 in let desk = desk_with mid_lists (Putting call rows slot departed last) in
       let told = goes desk writes.role in
-      let outcome = ap (λ (b : Bool). cond {A = Desk × Step} b
-      (moved_to desk (Putting call rows slot departed (last + 1)), Going) (swapped desk found, ended reply.Done))
-      (lt-leb last (2 * length rows) (omega arith)) in
-      let leads = subst (λ (o : Desk × Step). LeadsIn 1 table (call_of call) o mid after) outcome told.leads in
-      let marks = rw (lt-leb last (2 * length rows) (omega arith)) at told.marks in
-      let swaps = rw (lt-leb last (2 * length rows) (omega arith)) at told.finds in
+      let behind = lt-leb last (2 * length rows) (omega arith) in
+      let leads = rw behind at told.leads in
+      let marks = rw behind at told.marks in
+      let swaps = rw behind at told.finds in
       let only_polls = marks_stay ∙ took.marks
       ∙ ap (λ (m : Marks). with_scan before.me.0.marks m.polls (before.me.0.marks.loads ++ took.loads))
       (sym marks_stay) in
@@ -118,7 +128,7 @@ module
           slot = slot;
           inside = writes.room.place.0;
           log = told.log;
-          seen = told.seen ∙ ap (λ (o : Desk × Step). told.log ++ ending (call_of call) o.1) outcome;
+          seen = rw behind at told.seen;
           swaps = record { state = swaps.state; name = same_names ∙ swaps.name };
           marks = marks.3 ∙ ap (λ (m : Marks). with_name m (key_of call) slot marks.0 rows) only_polls;
           number = marks.0;
@@ -161,3 +171,72 @@ module
       flagged ((goes _ writes.role).heard ∙ heard)
       (fewer_retired table before.me.0.heard at.me.0.heard took.loads slot took.steps lists mid_lists (unnamed found)
       took.took))
+
+-- the state that a reply tells
+asked_if : (number : ℕ) (state : KeyState) → reply.Done ≡ fill_reply number state → kind_of state ≡ kind.Asked
+asked_if number (states.Asked n) is = refl
+asked_if number other is = absurd (cc)
+
+full_if_updated : (bound : ℕ) (batch : List Delta) (state : KeyState) → reply.Done ≡ update_reply bound batch state
+    → kind_of state ≡ kind.Rows
+full_if_updated bound batch (states.Rows n rows) is = refl
+full_if_updated bound batch other is = absurd (cc)
+
+full_if_replaced : (state : KeyState) → reply.Done ≡ replace_reply state → kind_of state ≡ kind.Rows
+full_if_replaced (states.Rows n rows) is = refl
+full_if_replaced other is = absurd (cc)
+
+full_if_evicted : (state : KeyState) → reply.Evicted ≡ evict_reply state → kind_of state ≡ kind.Rows
+full_if_evicted (states.Rows n rows) is = refl
+full_if_evicted other is = absurd (cc)
+
+no_find : (state : KeyState) (P : Type 0) → reply.Done ≡ find_reply state → P
+no_find (states.Hole n) P is = absurd (cc)
+no_find other P is = absurd (cc)
+
+no_evict : (state : KeyState) (P : Type 0) → reply.Done ≡ evict_reply state → P
+no_evict (states.Hole n) P is = absurd (cc)
+no_evict other P is = absurd (cc)
+
+no_cancel : (state : KeyState) (P : Type 0) → reply.Done ≡ cancel_reply state → P
+no_cancel (states.Asked n) P is =
+    on_test (λ (r : Reply). reply.Done ≡ r → P) (nat_lt n last_number) (λ _ done. absurd (cc))
+    (λ _ done. absurd (cc)) is
+no_cancel other P is = absurd (cc)
+
+-- the word that shows that state
+asked_word : (word : ℕ) → kind_shown word ≡ kind.Asked → is_filled word ≡ false
+asked_word word shows = grind arith
+
+module _ (word : ℕ) (old : Caller) (before after : List Retired) (retires : after ≡ before ++ unnamed word) where
+  pub one_retired : (key : ℕ) → get_or old.marks.names key 0 ≡ name_number word → kind_shown word ≡ kind.Rows
+      → RetiresOne key old before after
+  one_retired key named shows = let full = shown_filled word shows in record {
+    slot = slot_of word;
+    arrivals = arrivals_of word;
+    named = named ∙ filled_name word full;
+    retires = rw full at retires;
+  }
+
+  -- by the call's reply, Done
+  pub retires_so : (map : PartialMap) (call : WriterCall) → reply.Done ≡ reply_to map (call_of call)
+      → kind_shown word ≡ kind_of (state_of map (key_of call))
+      → get_or old.marks.names (key_of call) 0 ≡ name_number word
+      → Retires (call_of call) old before after
+  retires_so map (Find key) done shows named = no_find (state_of map key) _ done
+  retires_so map (Fill key number rows) done shows named =
+      let empty = asked_word word (shows ∙ asked_if number (state_of map key) done) in (
+        rw empty at named,
+        rw (empty, append-nil before) at retires,
+      )
+  retires_so map (Update key batch) done shows named =
+      one_retired key named (shows ∙ full_if_updated map.bound batch (state_of map key) done)
+  retires_so map (Replace key rows) done shows named =
+      one_retired key named (shows ∙ full_if_replaced (state_of map key) done)
+  retires_so map (Evict key) done shows named = no_evict (state_of map key) _ done
+  retires_so map (Cancel key) done shows named = no_cancel (state_of map key) _ done
+
+  pub evicted_one : (map : PartialMap) (key : ℕ) → reply.Evicted ≡ evict_reply (state_of map key)
+      → kind_shown word ≡ kind_of (state_of map key) → get_or old.marks.names key 0 ≡ name_number word
+      → RetiresOne key old before after
+  evicted_one map key evicted shows named = one_retired key named (shows ∙ full_if_evicted (state_of map key) evicted)

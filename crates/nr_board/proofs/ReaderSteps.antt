@@ -16,7 +16,7 @@ use Rattle.nr_words.specs.SetWords.{encode}
 use Rattle.nr_words.specs.declared.key_words.TheConstants.{ARRIVE}
 use Rattle.nr_core.proofs.Arrive.{arrives}
 use Rattle.nr_core.proofs.Ask.{asks}
-use Rattle.nr_core.proofs.Choices.{by_cases}
+use Rattle.nr_core.proofs.Choices.{by_cases, on_test}
 use Rattle.nr_core.proofs.Depart.{departs}
 use Rattle.nr_core.proofs.FindAgain.{finds_again}
 use Rattle.nr_core.proofs.KeyWords.{names_none, names_one}
@@ -25,7 +25,7 @@ use Rattle.nr_core.specs.Roles.{holds, is_by, is_reader, is_writer}
 use Rattle.nr_core.specs.declared.operation.Operation.{Operation}
 use Rattle.nr_core.specs.declared.operation.Operation.TheVariants.{Add, Load, Or}
 use Rattle.nr_core.specs.Slots.{content, departures, name_number, bound_of, names_slot, slot_room}
-use Rattle.nr_core.specs.Steps.{Arrives, Asks, CanStep, Departs, FindsAgain, ReadsHeld, Stepped, Telling}
+use Rattle.nr_core.specs.Steps.{Arrives, Asks, Departs, FindsAgain, ReadsHeld, Stepped, Telling}
 use Rattle.nr_core.specs.Story.{entry, map_after}
 use Rattle.nr_core.specs.declared.roles.Grip.{Grip}
 use Rattle.nr_core.specs.declared.roles.Grip.TheVariants.{Nothing, On}
@@ -123,7 +123,7 @@ asks_so shape slots id me key near idle =
     let reader = caller_number view.role in
     let tells = Asks reader key in
     lifts shape id view (Or key 1) tells (KeepsMarks view.marks) slots me.1 (λ found next. Asked key found view next)
-    view.pasts (subst (λ r. CanStep shape id r (Or key 1) tells) (sym idle) (asks shape id reader key near))
+    view.pasts (rw idle (asks shape id reader key near))
     (asks_marked role_of marks_of shape id view view.pasts reader key near idle) (knows_pasts shape id view)
     (sees_plain shape id view (Or key 1) tells (KeepsMarks view.marks) (λ found next. Asked key found view next)
     (key_inside shape key near) (key_no_count shape key near)
@@ -148,7 +148,7 @@ arrives_so shape slots id me key near idle silent =
     let tells = Arrives shape reader key in
     lifts shape id view (Add key ARRIVE) tells (ArrivesMarks view.marks key) slots me.1
     (λ found next. Arrived key found view next) view.pasts
-    (subst (λ r. CanStep shape id r (Add key ARRIVE) tells) (sym idle) (arrives shape id reader key near))
+    (rw idle (arrives shape id reader key near))
     (arrives_marked role_of marks_of shape id view view.pasts reader key near idle) (knows_pasts shape id view)
     (sees_plain shape id view (Add key ARRIVE) tells (ArrivesMarks view.marks key)
     (λ found next. Arrived key found view next) (key_inside shape key near) (key_no_count shape key near)
@@ -171,15 +171,7 @@ arrives_so shape slots id me key near idle silent =
     (λ next. Arrived key found view next) (λ within. ((near, inr (within, refl)), tt)) (λ advances. record {
       number = same;
       held = λ _. (
-        record {
-          is =
-              t.5
-              ∙ (λ j. Reader (sym same j)
-              (On (sym slot_so j) (sym rows_so j) (sym (ap (λ r. is_sized (grip_of r)) t.5) j)));
-          inside = subst (λ (p : ℕ × Shape). p.0 < p.1.slots) (λ j. (sym slot_so j, sym sized j)) t.3;
-          row_set =
-              subst (λ (p : Shape × List Row). IsRowSet (bound_of p.0) p.1) (λ j. (sym sized j, sym rows_so j)) t.4;
-        },
+        rw (sized, t.5) (record { is = refl; inside = t.3; row_set = t.4 }),
         slot_so ∙ sym names.1,
         advances,
       );
@@ -213,7 +205,7 @@ reads_so shape slots id me index is near short low sized =
     let place : ℕ = content shape slot index in let tells = ReadsHeld reader slot rows sized_so index in
     lifts shape id view (Load place) tells (KeepsMarks view.marks) slots me.1 (λ found next. Read place found view next)
     view.pasts
-    (subst (λ r. CanStep shape id r (Load place) tells) (sym is) (reads shape id reader slot rows sized_so index low))
+    (rw is (reads shape id reader slot rows sized_so index low))
     (reads_marked role_of marks_of shape id view view.pasts reader slot index rows sized_so is)
     (knows_pasts shape id view)
     (sees_plain shape id view (Load place) tells (KeepsMarks view.marks) (λ found next. Read place found view next)
@@ -261,39 +253,24 @@ finds_again_so shape slots id me key near is sized =
     ∙ shows_kind shape (set kept.counted key found) (get_or (set kept.counted key found) key 0)
     (state_of (map_after shape log) key) (step.core.shows key near)
     ∙ ap (λ (s : Shape). kind_of (state_of (map_after s log) key)) (sym sized) in
-    by_cases
-    (λ _. Choice shape id view (Load key) tells notes state kept step marked
-    (λ next. FoundAgain key found view next))
-    names
-    (λ yes.
-    let is_told = step.told.1 ∙ ap (λ (b : Bool). cond {A = List Entry} b (e ∷ []) []) yes in
-    let count = ap (λ (m : Marks). m.acts) marked.told.0
-    ∙ ap (λ (b : Bool). (found_again b (with_look view.marks key (name_number found))).acts) yes in
-    reads_on kept at step marked is step.told.0 marked.told.1 is_told (omega arith)
-    (λ next. FoundAgain key found view next) (λ within. ((near, inr (within, refl)), tt)) (λ advances. record {
+    reads_on kept at step marked is step.told.0 marked.told.1 step.told.1
+    (rw marked.told.0
+    (by_cases
+    (λ b. (found_again b (with_look view.marks key (name_number found))).acts + 1
+    ≡ view.marks.acts + 1 + acts_told (cond {A = List Entry} b (e ∷ []) []))
+    names (λ _. omega arith) (λ _. omega arith)))
+    (λ next. FoundAgain key found view next)
+    (λ within. on_test (AreCallers shape) names (λ _. ((near, inr (within, refl)), tt)) (λ _. tt))
+    (λ advances. record {
       role = role;
-      same = λ _. advances;
-      other = λ no. differ names _ yes no;
+      same = λ yes. rw yes at advances;
+      other = λ no. rw no at advances;
       inside = inside;
       marks = marked.told.0;
       put = marked.told.2;
       kind = kind;
       says = refl;
     }))
-    (λ no. let is_told : step.entries ≡ [] = step.told.1 ∙ ap (λ (b : Bool). cond {A = List Entry} b (e ∷ []) []) no in
-    let count = ap (λ (m : Marks). m.acts) marked.told.0
-    ∙ ap (λ (b : Bool). (found_again b (with_look view.marks key (name_number found))).acts) no in
-    reads_on kept at step marked is step.told.0 marked.told.1 is_told (omega arith)
-    (λ next. FoundAgain key found view next) (λ _. tt) (λ advances. record {
-      role = role;
-      same = λ yes. differ names _ yes no;
-      other = λ _. advances;
-      inside = inside;
-      marks = marked.told.0;
-      put = marked.told.2;
-      kind = kind;
-      says = refl;
-    })))
 
 pub departs_so : (shape : Shape) (slots id : ℕ) (me : Me (Unit {0}) View)
     → me.0.role ≡ holding me.0.role (is_sized (grip_of me.0.role)) → slot_held me.0.role < shape.slots
@@ -310,7 +287,7 @@ departs_so shape slots id me is near sized silent =
     let place : ℕ = departures shape slot in let tells = Departs reader in
     lifts shape id view (Add place 1) tells (DepartsMarks view.marks) slots me.1 (λ found next. Departed view next)
     view.pasts
-    (subst (λ r. CanStep shape id r (Add place 1) tells) (sym is) (departs shape id reader slot rows sized_so))
+    (rw is (departs shape id reader slot rows sized_so))
     (departs_marked role_of marks_of shape id view view.pasts reader slot rows sized_so is) (knows_pasts shape id view)
     (λ state kept at step. let wide = kept.core.wide in let few = lent_small shape state kept slot in (
       record {

@@ -1,7 +1,7 @@
 -- The writer reads the set of the slot that its key names, word by word: each read finds the next word of the set that
 -- the key has, which stays the same meanwhile.
-use Rattle.std.proofs.Common.{◌≡◌, ℕ, ◌+◌, ◌-◌, ◌*◌, ◌<◌, ◌≤◌, List, [], ◌∷◌, ◌++◌, Bool, cond, get_or, length, take}
-use Rattle.std.proofs.Common.{nat_eq, refl, sym, ap, ◌∙◌, subst, arith, append-nil}
+use Rattle.std.proofs.Common.{◌≡◌, ℕ, ◌+◌, ◌-◌, ◌*◌, ◌<◌, ◌≤◌, List, [], ◌∷◌, ◌++◌, get_or, length, take, refl, sym, ap}
+use Rattle.std.proofs.Common.{◌∙◌, subst, arith, append-nil}
 use mathlib.Core.Logic.{dite}
 use native.Mathlib.Decide.{ℕ_discrete}
 use Rattle.std.proofs.lemmas.Bool.{eq-eqb, ne_eqb}
@@ -18,18 +18,18 @@ use Rattle.nr_model.specs.declared.calls.Call.TheVariants as model
 use Rattle.nr_model.specs.declared.calls.Reply.TheVariants as reply
 use Rattle.nr_model.specs.declared.rows.Row.{Row}
 use Rattle.nr_model.specs.declared.states.KeyState.TheVariants as states
-use Rattle.nr_words.specs.SetWords.{decode, encode}
+use Rattle.nr_words.specs.SetWords.{encode}
 use Rattle.nr_core.proofs.Histories.{state_same}
 use Rattle.nr_core.proofs.Sets.{set_back}
 use Rattle.nr_core.specs.Slots.{content, bound_of}
 use Rattle.nr_core.specs.States.{key_of}
 use Rattle.nr_core.specs.Story.{call_of, ending, entry, map_after}
-use Rattle.nr_core.specs.Writer.{decided, decoded, moved_to, read_on, renewed, settled, went}
+use Rattle.nr_core.specs.Writer.{decided, moved_to, read_on, renewed, settled, went}
 use Rattle.nr_core.specs.declared.calls.Step.{Step}
 use Rattle.nr_core.specs.declared.calls.Step.TheVariants.{Ended, Going}
 use Rattle.nr_core.specs.declared.calls.WReply.TheVariants as writer
 use Rattle.nr_core.specs.declared.calls.WriterCall.{WriterCall}
-use Rattle.nr_core.specs.declared.calls.WriterCall.TheVariants.{Cancel, Evict, Fill, Find, Replace, Update}
+use Rattle.nr_core.specs.declared.calls.WriterCall.TheVariants.{Find, Update}
 use Rattle.nr_core.specs.declared.places.Place.TheVariants.{Reading}
 use Rattle.nr_core.specs.declared.roles.Desk.{Desk}
 use Rattle.nr_core.specs.declared.shape.Shape.{Shape}
@@ -48,9 +48,8 @@ settled_quiet shape desk call rows c = grind arith
 
 -- an entry that a step of the writer adds is its own
 ending_own : (call : Call) (step : Step) → entries_of (ending call step) 0 ≡ ending call step
-ending_own call Going = refl
 ending_own call (Ended (writer.Reply answer)) = refl
-ending_own call (Ended (writer.NoSlot counts)) = refl
+ending_own call other = refl
 
 -- the reply that ends a call with its last read leaves the key's set
 module _ (shape : Shape) (desk : Desk) (number : ℕ) (rows : List Row) (log : List Entry) where
@@ -80,12 +79,9 @@ module _ (shape : Shape) (desk : Desk) (number : ℕ) (rows : List Row) (log : L
       → state_of (map_after shape (log ++ ending (call_of call) (decided shape desk call rows).1)) (key_of call)
       ≡ states.Rows number rows
   decided_leaves (Find key) near had = state_same shape log (entry 0 (model.Find key) (reply.Rows rows)) near ∙ had
-  decided_leaves (Fill key given new) near had = quiet_leaves key [] refl had
   decided_leaves (Update key batch) near had =
       renewed_leaves key batch near had (applied (bound_of shape) rows batch) refl
-  decided_leaves (Replace key new) near had = quiet_leaves key [] refl had
-  decided_leaves (Evict key) near had = quiet_leaves key [] refl had
-  decided_leaves (Cancel key) near had = quiet_leaves key [] refl had
+  decided_leaves other near had = quiet_leaves (key_of other) [] refl had
 
 module _ (table : Table) (call : WriterCall) (begin : ℕ) (before : MapSeat) where
   abbrev desk : Desk
@@ -97,25 +93,18 @@ module _ (table : Table) (call : WriterCall) (begin : ℕ) (before : MapSeat) wh
   reads_more slot rows words some more = let got = take words (encode rows) in
       let size : length got ≡ words = length-take-le words (encode rows) (omega (arith, length-encode rows)) in
       let count : get_or got 0 0 ≡ length rows = get_or-take words (encode rows) 0 0 some in
-      ap
-      (λ (b : Bool). cond {A = Desk × Step} b (decoded table.shape desk call (decode got))
-      (moved_to desk (Reading call slot got), Going))
-      (ne_eqb (length got) (2 * get_or got 0 0 + 1) (λ e. absurd (omega arith)))
+      rw (ne_eqb (length got) (2 * get_or got 0 0 + 1) (λ e. absurd (omega arith)))
 
   -- all are read
   reads_last : (slot : ℕ) (rows : List Row) → IsRowSet (bound_of table.shape) rows
       → reads_on table desk call slot rows (2 * length rows + 1) ≡ decided table.shape desk call rows
   reads_last slot rows row_set = let all = encode rows in
       let whole = take_all (2 * length rows + 1) all (omega (arith, length-encode rows)) in
-      ap
-      (λ (got : List ℕ). cond {A = Desk × Step} (nat_eq (length got) (2 * get_or got 0 0 + 1))
-      (decoded table.shape desk call (decode got)) (moved_to desk (Reading call slot got), Going))
-      whole
-      ∙ ap
-      (λ (b : Bool). cond {A = Desk × Step} b (decoded table.shape desk call (decode all))
-      (moved_to desk (Reading call slot all), Going))
-      (eq-eqb (length all) (2 * length rows + 1) (length-encode rows))
-      ∙ ap (decoded table.shape desk call) (set_back (bound_of table.shape) rows row_set)
+      rw (
+        whole,
+        eq-eqb (length all) (2 * length rows + 1) (length-encode rows),
+        set_back (bound_of table.shape) rows row_set,
+      )
 
   -- the key has the set still
   still_named : (slot : ℕ) (rows : List Row) (words : ℕ) (after : MapSeat) → IsRowSet (bound_of table.shape) rows
@@ -238,8 +227,7 @@ module _ (table : Table) (call : WriterCall) (begin : ℕ) (before : MapSeat) wh
         })
         (record {
           log = told.log;
-          seen = told.seen ∙ ap (λ (l : List ℕ). told.log ++ ending (call_of call)
-              (read_on table.shape desk call so_far.slot l).1) words_are;
+          seen = rw words_are at told.seen;
           number = so_far.had.number;
           state = had_then;
         })

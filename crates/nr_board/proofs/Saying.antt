@@ -1,7 +1,6 @@
 -- One reader's word changes, or what that reader holds by it.
-use Rattle.std.proofs.Common.{◌≡◌, ◌≢◌, ℕ, suc, ◌+◌, ◌-◌, ◌%◌, ◌^◌, ◌<◌, ◌≤◌, List, [], ◌∷◌, Bool, true, false}
-use Rattle.std.proofs.Common.{cond, length, map, get_or, set, length-set, get_or-set_other, get_or-set_same, refl, sym}
-use Rattle.std.proofs.Common.{ap, ◌∙◌, subst, arith}
+use Rattle.std.proofs.Common.{◌≡◌, ◌≢◌, ℕ, suc, ◌+◌, ◌-◌, ◌%◌, ◌^◌, ◌<◌, ◌≤◌, List, [], ◌∷◌, true, length, map, get_or}
+use Rattle.std.proofs.Common.{set, length-set, get_or-set_other, get_or-set_same, refl, sym, ap, ◌∙◌, subst, arith}
 use Rattle.std.proofs.lemmas.Bool.{false≢true, eqb-true}
 use Rattle.std.specs.Prelude.{nat_lt}
 use mathlib.Core.Logic.{dite}
@@ -11,13 +10,13 @@ use lib.ListN.{get_elem?}
 use Rattle.nr_words.specs.Places.{total_of}
 use Rattle.nr_board.proofs.Counting.{no_reader_before}
 use Rattle.nr_board.proofs.OneView.{at_any}
+use Rattle.nr_core.proofs.Choices.{on_test}
 use Rattle.nr_core.proofs.Sums.{here_after, only-le, total-le}
 use Rattle.nr_core.proofs.WordPlaces.{departures_inside, same_departures}
 use Rattle.nr_core.specs.Roles.{holds, is_by, is_reader}
 use Rattle.nr_core.specs.Slots.{departures, layout}
 use Rattle.nr_core.specs.Sums.{total}
-use Rattle.nr_core.specs.declared.roles.Grip.{Grip}
-use Rattle.nr_core.specs.declared.roles.Grip.TheVariants.{Nothing, On}
+use Rattle.nr_core.specs.declared.roles.Grip.TheVariants.{On}
 use Rattle.nr_core.specs.declared.roles.Role.{Role}
 use Rattle.nr_core.specs.declared.roles.Role.TheVariants.{Note, Reader, Writer}
 use Rattle.nr_core.specs.declared.shape.Shape.{Shape}
@@ -67,21 +66,12 @@ counted_lent shape before after words counted mine value near wide others is see
 
 -- a token holds a slot by its word at most once, and only as a reader
 lends_one : (slot : ℕ) (view : View) → lends slot view ≤ is_reader view.role
-lends_one slot view = at_most (nat_lt 0 view.says) (holds_one view.role)
+lends_one slot view =
+    on_test (λ (n : ℕ). n ≤ is_reader view.role) (nat_lt 0 view.says) (λ _. holds_one view.role) (λ _. omega arith)
   where
-    grips_one : (grip : Grip) → holds slot (Reader 0 grip) ≤ 1
-    grips_one Nothing = omega arith
-    grips_one (On held rows sized) = only-le slot held
-
     holds_one : (role : Role) → holds slot role ≤ is_reader role
-    holds_one (Writer desk) = omega arith
-    holds_one (Reader reader grip) = grips_one grip
-    holds_one Note = omega arith
-
-    at_most : (loud : Bool) → holds slot view.role ≤ is_reader view.role
-        → cond loud (holds slot view.role) 0 ≤ is_reader view.role
-    at_most true one = one
-    at_most false one = omega arith
+    holds_one (Reader reader (On held rows sized)) = only-le slot held
+    holds_one other = omega arith
 
 readers_mapped : (views : List View)
     → total (λ (view : View). is_reader view.role) views ≡ total is_reader (map role_of views)

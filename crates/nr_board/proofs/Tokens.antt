@@ -92,3 +92,14 @@ pub grows_from : {steps : ℕ} {old : Caller} {entries : List Entry} {new : Call
     → StartsWith new.seen old.seen
 grows_from {old = old} {entries = entries} grows =
     record { rest = grows.between ++ entries; is = grows.seen ∙ append_assoc old.seen grows.between entries }
+
+-- what begins a beginning of a history begins the history, and a longer one
+pub starts_through : {first mid last : List Entry} → StartsWith mid first → StartsWith last mid → StartsWith last first
+starts_through {first = first} begun more = record {
+  rest = begun.rest ++ more.rest;
+  is = more.is ∙ ap (λ (l : List Entry). l ++ more.rest) begun.is ∙ append_assoc first begun.rest more.rest;
+}
+
+pub starts_more : {log seen : List Entry} → StartsWith log seen → (entries : List Entry)
+    → StartsWith (log ++ entries) seen
+starts_more begins entries = starts_through begins (record { rest = entries; is = refl })

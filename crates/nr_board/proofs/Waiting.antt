@@ -1,19 +1,15 @@
 -- A call that reads what its taken slot had stands as if it had made these steps before it looked for the slot: they
 -- tell it nothing.
-use Rattle.std.proofs.Common.{◌≡◌, ℕ, ◌+◌, ◌++◌, ◌∙◌, List, refl, sym, ap, subst, arith, []}
+use Rattle.std.proofs.Common.{◌≡◌, ℕ, ◌+◌, ◌∙◌, List, refl, sym, ap, arith}
 use Rattle.nr_model.specs.Histories.{Entry}
-use Rattle.nr_model.specs.declared.calls.Call.{Call}
 use Rattle.nr_model.specs.declared.rows.Row.{Row}
-use Rattle.nr_core.specs.Core.{AreNumbers}
 use Rattle.nr_core.specs.SlotLists.{SlotLists}
-use Rattle.nr_core.specs.declared.calls.NoSlot.{NoSlot}
 use Rattle.nr_core.specs.declared.calls.WriterCall.{WriterCall}
 use Rattle.nr_core.specs.declared.roles.Desk.{Desk}
-use Rattle.nr_core.specs.Marks.{with_scan, set_in}
+use Rattle.nr_core.specs.Marks.{Marks, set_in}
 use Rattle.nr_board.specs.Begins.{HasSet}
-use Rattle.nr_board.specs.Callers.{Caller, Grows, Table, caller_of, map_seen, token}
+use Rattle.nr_board.specs.Callers.{Caller, Grows, Table, caller_of, token}
 use Rattle.nr_board.specs.Meetings.{with_steps}
-use Rattle.nr_board.specs.Plays.{Lacks}
 use Rattle.nr_board.specs.Recalls.{later, waited}
 use Rattle.nr_board.specs.Views.{View}
 use Rattle.nr_board.specs.WriterSeats.{MapSeat, TakesSlot, WritesAt, RestsAt}
@@ -36,12 +32,6 @@ grows_counted : {made : ℕ} {entries : List Entry} {old new : Caller} → Grows
     → Grows sum entries (record old { steps = before }) (record new { steps = after })
 grows_counted grows sum before after count = search (grows, count)
 
--- both began and ended that many steps later
-grows_later : (steps made : ℕ) (old mid : Caller) (entries : List Entry) → Grows made entries old mid
-    → Grows made entries (with_steps steps old) (with_steps steps mid)
-grows_later steps made old mid entries grows =
-    grows_counted grows made (old.steps + steps) (mid.steps + steps) (omega (arith, grows.steps_made))
-
 -- the steps are its own
 pub grows_with : (steps made sum : ℕ) (old : Caller) (entries : List Entry) (new : Caller) → sum ≡ made + steps
     → Grows made entries (with_steps steps old) new → Grows sum entries old new
@@ -54,9 +44,7 @@ writes_later table desk mid new steps same waits writes = record {
   own = (λ j. record { id = same j; shape = (waits j).shape; announcers = (waits j).announcers }) ∙ writes.own;
   role = ap (λ (v : View). v.role) waits ∙ writes.role;
   room = writes.room;
-  numbers =
-      subst (λ (caller : Caller). AreNumbers table.shape (map_seen caller) desk.numbers)
-      (sym (waited_token mid new steps same waits)) writes.numbers;
+  numbers = rw waits writes.numbers;
 }
 
 -- the slot is taken still
@@ -75,10 +63,10 @@ takes_later table call rows slot departed lists after old mid new steps takes sa
   reaped = takes.reaped;
   writes = writes_later table _ mid new steps same waits takes.writes;
   grows =
-      rw (waited_token mid new steps same waits) (grows_later steps takes.steps (token old) (token mid) [] takes.grows);
-  marks =
-      ap (λ (v : View). v.marks) waits ∙ takes.marks
-      ∙ ap (λ (v : View). with_scan old.me.0.marks v.marks.polls (old.me.0.marks.loads ++ takes.loads)) (sym waits);
+      rw (waited_token mid new steps same waits)
+      (grows_counted takes.grows takes.steps (old.me.0.steps + steps) (mid.me.0.steps + steps)
+      (omega (arith, takes.grows.steps_made)));
+  marks = rw waits takes.marks;
 }
 
 -- what the call gives out, as contracts see it
@@ -92,18 +80,12 @@ pub given_out : {Room : Type 0} (shows : Room → List Row
     room then steps given
 given_out shows {table = table} {lists = lists} {before = before} {mid = mid} slot taken room then steps given set own
     same out =
-    subst (λ (p : ℕ × SlotLists × ℕ × List Row). HandsOut shows p.0 p.1 p.2 p.3 room then steps given)
-    (λ j. (
-      (sym own j).shape.rows,
-      sym (lists_shown table lists before set.rests) j,
-      sym same j,
-      set_in (set.marks j) (sym same j),
-    ))
-    out
-
-lacks_later : (call : Call) (counts : NoSlot) (caller : Caller) (steps : ℕ) → Lacks call counts caller
-    → Lacks call counts (with_steps steps caller)
-lacks_later call counts caller steps lacks = assumption lacks
+    rw (
+      ap (λ (t : Table). t.shape.rows) own,
+      lists_shown table lists before set.rests,
+      same,
+      ap (λ (m : Marks). set_in m taken) (sym set.marks),
+    ) out
 
 -- a call that has its set has it still
 pub set_later : {table : Table} {lists : SlotLists} {made : ℕ} {call : WriterCall} {rows : List Row} {before
@@ -118,7 +100,7 @@ set_later {table = table} {made = made} {before = before} {mid = mid} steps set 
       settles = record {
         slots = settles.slots;
         writes = writes_later table _ mid (later steps mid) steps refl refl settles.writes;
-        short = λ counts without. lacks_later _ counts (token mid) steps (settles.short counts without);
+        short = λ counts without. assumption (settles.short counts without);
         knows = assumption settles.knows;
         polls = settles.polls;
       };

@@ -2,7 +2,6 @@
 use Rattle.std.proofs.Common.{◌≡◌, ◌≢◌, ℕ, suc, ◌+◌, ◌-◌, ◌%◌, ◌^◌, ◌<◌, ◌⊎◌, ⊎_elim, inr, List, [], ◌∷◌, ◌++◌}
 use Rattle.std.proofs.Common.{Bool, true, cond, length-set, map, get_or, get_or-set_same, set, refl, sym, ap, ◌∙◌}
 use Rattle.std.proofs.Common.{subst, arith, lt-ltb}
-use Rattle.std.specs.Prelude.{nat_lt}
 use Rattle.std.proofs.lemmas.Bool.{eqb-true}
 use mathlib.Core.Option.{none, some}
 use lib.ListN.{get_elem?}
@@ -10,7 +9,6 @@ use lib.Seq.{set-get_or}
 use Rattle.atomic_table.proofs.Lists.{at_map}
 use Rattle.atomic_table.specs.Table.{Act, Allows, Me, State, Valid, keeps, step, stepped}
 use Rattle.nr_model.specs.Histories.{Entry}
-use Rattle.nr_model.specs.Rows.{IsRowSet}
 use Rattle.nr_model.specs.declared.calls.Call.TheVariants as model
 use Rattle.nr_model.specs.declared.calls.Reply.TheVariants as reply
 use Rattle.nr_model.specs.declared.rows.Row.{Row}
@@ -22,12 +20,12 @@ use Rattle.nr_core.proofs.Learn.{learns}
 use Rattle.nr_core.proofs.Sums.{only-is, only-other, only-same, total-set}
 use Rattle.nr_core.specs.Roles.{holds, is_by, is_reader, is_writer}
 use Rattle.nr_core.specs.Steps.{CanStep, CanStepWhere, Departs, HoldsNamed, LoadsWord, LooksUp, Stepped, Telling}
-use Rattle.nr_core.specs.Slots.{bound_of, departures, name_number, names_slot}
+use Rattle.nr_core.specs.Slots.{departures, name_number, names_slot}
 use Rattle.nr_core.specs.Story.{entry}
 use Rattle.nr_core.specs.Sums.{only}
 use Rattle.nr_core.specs.declared.operation.Operation.{Operation}
 use Rattle.nr_core.specs.declared.operation.Operation.TheVariants.{Add, Load}
-use Rattle.nr_core.specs.declared.roles.Grip.TheVariants.{Nothing, On}
+use Rattle.nr_core.specs.declared.roles.Grip.TheVariants.{Nothing}
 use Rattle.nr_core.specs.declared.roles.Role.{Role}
 use Rattle.nr_core.specs.declared.roles.Role.TheVariants.{Note, Reader, Writer}
 use Rattle.nr_core.specs.declared.shape.Shape.{Shape}
@@ -40,16 +38,16 @@ use Rattle.nr_core.specs.MarkSteps.{DepartsMarks, HoldsNamedMarks, LooksUpMarks,
 use Rattle.nr_core.specs.Marks.{Marks, acted, with_look}
 use Rattle.nr_core.specs.Puts.{put_number}
 use Rattle.nr_board.proofs.Counting.{counted_same}
-use Rattle.nr_board.proofs.Lift.{Choice, Follows, Makes, allowed, apart, key_inside, key_no_count, keeps_core}
-use Rattle.nr_board.proofs.Lift.{knows_pasts, lends_on, lent_small, makes, sees_plain, words_after}
+use Rattle.nr_board.proofs.Lift.{Follows, Makes, allowed, apart, key_inside, key_no_count, keeps_core, knows_pasts}
+use Rattle.nr_board.proofs.Lift.{lends_on, lent_small, makes, sees_plain, words_after}
 use Rattle.nr_board.proofs.Moves.{ActsGo, learned_follows, learned_gains, learned_next}
 use Rattle.nr_board.proofs.Moves.{waited_follows, waited_next, waited_rests}
 use Rattle.nr_board.proofs.ReaderSteps.{acts_so, differ, reader_is, reader_within, reads_on}
 use Rattle.nr_board.proofs.Saying.{announces_own, counted_behind, counted_lent, is_one, says_apart}
-use Rattle.nr_board.proofs.Heard.{AllHear, hears_after, no_reader}
+use Rattle.nr_board.proofs.Heard.{AllHear, hears_after, lends_none, no_reader}
 use Rattle.nr_board.specs.Announcing.{Counted, lends, lent, says_at}
-use Rattle.nr_board.specs.Entries.{AreCallers}
-use Rattle.nr_board.specs.Plays.{IsIdle, Waits}
+use Rattle.nr_board.specs.Entries.{AreCallers, acts_told}
+use Rattle.nr_board.specs.Plays.{Holds, IsIdle}
 use Rattle.nr_board.specs.Rule.{Kept, marks_of, role_of}
 use Rattle.nr_board.specs.Views.{View, grip_of, is_sized, caller_number, rows_held, slot_held}
 use Rattle.nr_board.specs.WordPlays.{Confirmed, HasWord, HoldsByWord, HoldsSaid, LookedUp, Said, has_confirmed}
@@ -68,45 +66,29 @@ look_up_makes shape id me key near idle sized =
     let e = entry reader (model.Find key) reply.Hole in
     let looked : ℕ → Marks = λ found. with_look view.marks key (name_number found) in
     makes shape id view (Load key) tells notes me.1 (λ found next. LookedUp key found view next) view.pasts
-    (subst (λ r. CanStep shape id r (Load key) tells) (sym idle) (looks_up shape id reader key near))
+    (rw idle (looks_up shape id reader key near))
     (looks_up_marked role_of marks_of shape id view view.pasts reader key idle) (knows_pasts shape id view)
     (sees_plain shape id view (Load key) tells notes (λ found next. LookedUp key found view next)
     (key_inside shape key near) (key_no_count shape key near)
     (λ state kept at step. lends_on view step.after (λ slot. ap (holds slot) (step.told.0 ∙ sym idle))))
     (λ state kept at step marked. let found : ℕ = get_or kept.counted key 0 in
-    by_cases
-    (λ (_ : Bool). Choice shape id view (Load key) tells notes state kept step marked
-    (λ next. LookedUp key found view next))
-    (is_filled found)
-    (λ full. let is : step.entries ≡ [] = step.told.1 ∙ ap (λ (b : Bool). cond {A = List Entry} b [] (e ∷ [])) full in
-    let same = marked.told.0
-    ∙ ap
-    (λ (b : Bool). cond {A = Marks} b (looked found)
-    (acted (looked found) (put_number (kept.log ++ step.entries) key)))
-    full in
-    reads_on kept at step marked idle step.told.0 marked.told.1 is (omega (arith, ap (λ (m : Marks). m.acts) same))
-    (λ next. LookedUp key found view next) (λ _. tt) (λ advances. record {
+    let filled = is_filled found in
+    reads_on kept at step marked idle step.told.0 marked.told.1 step.told.1
+    (rw marked.told.0
+    (by_cases
+    (λ b. (cond {A = Marks} b (looked found)
+    (acted (looked found) (put_number (kept.log ++ step.entries) key))).acts + 0
+    ≡ view.marks.acts + 0 + acts_told (cond {A = List Entry} b [] (e ∷ [])))
+    filled (λ _. omega arith) (λ _. omega arith)))
+    (λ next. LookedUp key found view next)
+    (λ within. on_test (AreCallers shape) filled (λ _. tt) (λ _. ((near, inr (within, refl)), tt)))
+    (λ advances. record {
       role = step.told.0 ∙ sym idle;
       says = refl;
-      hole = λ empty. differ (is_filled found) _ full empty;
-      named = λ _. advances;
+      hole = λ empty. rw empty at advances;
+      named = λ full. rw full at advances;
       marks = marked.told.0;
     }))
-    (λ empty.
-    let is : step.entries ≡ e ∷ [] = step.told.1 ∙ ap (λ (b : Bool). cond {A = List Entry} b [] (e ∷ [])) empty in
-    let one = marked.told.0
-    ∙ ap
-    (λ (b : Bool). cond {A = Marks} b (looked found)
-    (acted (looked found) (put_number (kept.log ++ step.entries) key)))
-    empty in
-    reads_on kept at step marked idle step.told.0 marked.told.1 is (omega (arith, ap (λ (m : Marks). m.acts) one))
-    (λ next. LookedUp key found view next) (λ within. ((near, inr (within, refl)), tt)) (λ advances. record {
-      role = step.told.0 ∙ sym idle;
-      says = refl;
-      hole = λ _. advances;
-      named = λ full. differ (is_filled found) _ full empty;
-      marks = marked.told.0;
-    })))
 
 pub looks_up_so : (shape : Shape) (slots id : ℕ) (me : Me (Unit {0}) View) (key : ℕ) → key < shape.keys
     → IsIdle me.0.role → me.0.shape ≡ shape
@@ -117,17 +99,9 @@ looks_up_so shape slots id me key near idle sized =
 
 -- WHAT THE READER'S WORD SAYS
 
--- the holds by words where one token's changes
-lent_after : (views : List View) (id : ℕ) (view next : View) → get_elem? views id ≡ some view → (slot : ℕ)
-    → lent (set views id next) slot + lends slot view ≡ lent views slot + lends slot next
-lent_after views id view next at slot = total-set (lends slot) views id view next at
-
--- what a token that says something holds, it holds by its word; one that holds nothing lends nothing
+-- what a token that says something holds, it holds by its word
 loud_lends : (view : View) (slot : ℕ) → 0 < view.says → lends slot view ≡ holds slot view.role
 loud_lends view slot loud = ap (λ (b : Bool). cond b (holds slot view.role) 0) (lt-ltb 0 view.says loud)
-
-idle_lends : (view : View) → ((slot : ℕ) → holds slot view.role ≡ 0) → (slot : ℕ) → lends slot view ≡ 0
-idle_lends view nothing slot = on_test (λ (n : ℕ). n ≡ 0) (nat_lt 0 view.says) (λ _. nothing slot) (λ _. refl)
 
 module _ (shape : Shape) (id own : ℕ) (view : View) (has : HasWord own view) (state : State (Unit {0}) View)
     (kept : Kept shape state) (at : get_elem? state.views id ≡ some view)
@@ -139,9 +113,8 @@ module _ (shape : Shape) (id own : ℕ) (view : View) (has : HasWord own view) (
   is_within = let told = kept.told_of id view at (is_caller view.role is_own) in let within = has.within in omega arith
     where
       is_caller : (role : Role) → is_by (suc own) role ≡ true → 0 < is_writer role + is_reader role
-      is_caller (Writer desk) his = omega arith
-      is_caller (Reader reader grip) his = omega arith
       is_caller Note his = absurd (cc)
+      is_caller other his = omega arith
 
   -- no other token is that reader
   alone : (other : ℕ) (viewed : View) → other ≢ id → get_elem? state.views other ≡ some viewed
@@ -210,21 +183,6 @@ module _ (shape : Shape) (id own : ℕ) (view : View) (has : HasWord own view) (
         (kept.announced.says id own view at is_own is_within ∙ sym same) (λ _ _. refl) holds_it refl kept.announced)
         heard_still
 
--- a view that says something else goes along with the step too
-saying_follows : (shape : Shape) (id : ℕ) (view : View) (operation : Operation) (tells : Telling) (notes : MarkTelling)
-    (state : State (Unit {0}) View) (kept : Kept shape state)
-    (step : Stepped shape kept.counted (map role_of state.views) kept.log id view.role operation tells)
-    (marked : Remarked role_of marks_of shape kept.counted state.views kept.log id operation view step.after
-    step.entries notes)
-    (next : View) (says : ℕ)
-    → Follows shape id view operation tells notes state kept step marked next
-    → Follows shape id view operation tells notes state kept step marked (saying says next)
-saying_follows shape id view operation tells notes state kept step marked next says follows = assumption follows
-
--- and what its step told it stands
-saying_waits : (view next : View) (says : ℕ) → Waits view next → Waits view (saying says next)
-saying_waits view next says waits table = assumption (waits table)
-
 -- THE ANNOUNCEMENT, AND ITS END
 
 module _ (shape : Shape) (slots id own says : ℕ) (me : Me (Unit {0}) View) (has : HasWord own me.0)
@@ -264,18 +222,17 @@ module _ (shape : Shape) (slots id own says : ℕ) (me : Me (Unit {0}) View) (ha
       let callers : AreCallers shape step.entries = subst (AreCallers shape) (sym no_entries) tt in
       let quiet = waited_next kept at step marked same sized callers acts in
       let next = saying says quiet in
-      let holds_none : (slot : ℕ) → holds slot next.role ≡ 0 = λ slot. ap (holds slot) after in (
+      let holds_none : (slot : ℕ) → holds slot next.role ≡ 0 = λ slot. ap (holds slot) after in
+      let none_lent : (slot : ℕ) → lends slot next ≡ 0 = λ slot. lends_none next slot (holds_none slot) in (
         next,
         says_kept shape id own view has state kept at mine operation tells notes step marked next
-            (saying_follows shape id view operation tells notes state kept step marked quiet says
-            (waited_follows kept at step marked same sized callers acts no_entries))
-            (λ _ slot _ _ _ _. idle_lends next holds_none slot)
-            (λ slot _ grips. absurd (omega (arith, holds_none slot))) (seen next (idle_lends next holds_none)),
+            (assumption (waited_follows kept at step marked same sized callers acts no_entries))
+            (λ _ slot _ _ _ _. none_lent slot)
+            (λ slot _ grips. absurd (omega (arith, holds_none slot))) (seen next none_lent),
         record {
           role = after;
           says_it = refl;
-          waits = saying_waits view quiet says
-              (waited_rests kept at step marked same sized callers acts no_news);
+          waits = λ table. assumption (waited_rests kept at step marked same sized callers acts no_news table);
           marks = lets_go;
         },
       )
@@ -295,11 +252,11 @@ module _ (shape : Shape) (slots id own says : ℕ) (me : Me (Unit {0}) View) (ha
       (marked.told.0 ∙ sym (ap (λ r. let_go (grip_of r) view.marks) idle))
       (acts_so view marked.now idle (step.told.0 ∙ idle) step.told.1
       (let same = ap (λ (m : Marks). m.acts) marked.told.0 in omega arith))
-      (λ next lends_none. rw (set-get_or kept.counted 0 0)
+      (λ next none_lent. rw (set-get_or kept.counted 0 0)
       (counted_same shape (lent state.views) (lent (set state.views id next)) state.words kept.counted
       (λ slot.
-      let before : lends slot view ≡ 0 = idle_lends view (λ s. ap (holds s) idle) slot in
-      omega (arith, lent_after state.views id view next at slot, lends_none slot))
+      let before : lends slot view ≡ 0 = lends_none view slot (ap (holds slot) idle) in
+      omega (arith, total-set (lends slot) state.views id view next at, none_lent slot))
       kept.counts_words))
 
   -- and sees a departure where it held a slot by its word
@@ -326,17 +283,12 @@ module _ (shape : Shape) (slots id own says : ℕ) (me : Me (Unit {0}) View) (ha
       let near = held.0.inside in let wide = kept.core.wide in let few = lent_small shape state kept slot in
       let grips : (s : ℕ) → lends s view ≡ only s slot = λ s. loud_lends view s held.1 ∙ ap (holds s) is in
       let change : (s : ℕ) → lent (set state.views id next) s + only s slot ≡ lent state.views s
-      = λ s. omega (arith, lent_after state.views id view next at s, grips s, lends_none s) in
+      = λ s. omega (arith, total-set (lends s) state.views id view next at, grips s, lends_none s) in
       let less = kept.counts_words.less slot near in
       counted_lent shape (lent state.views) (lent (set state.views id next)) state.words kept.counted slot
       ((get_or kept.counted place 0 + 1) % 2 ^ 64) near (omega arith)
       (λ s ne. omega (arith, change s, only-other s slot (λ e. ne (sym e))))
       (omega (arith, change slot, only-same slot, less, few)) kept.counts_words)
-
--- the same shape under another name
-pub holds_by_word : (shape other : Shape) (view : View) → shape ≡ other → IsIdle view.role ⊎ HoldsByWord shape view
-    → IsIdle view.role ⊎ HoldsByWord other view
-holds_by_word shape other view same = subst (λ (s : Shape). IsIdle view.role ⊎ HoldsByWord s view) same
 
 pub says_so : (shape : Shape) (slots id own says : ℕ) (me : Me (Unit {0}) View) → HasWord own me.0 → me.0.shape ≡ shape
     → IsIdle me.0.role ⊎ HoldsByWord shape me.0
@@ -362,8 +314,7 @@ named_unheard shape state kept other writer there writes key slot near names = b
         ((rw is at (kept.marked.each other writer there)).names
         key near
         ∙ names)
-    by_role (Reader reader grip) is = absurd (let none_writes = ap is_writer is in omega arith)
-    by_role Note is = absurd (let none_writes = ap is_writer is in omega arith)
+    by_role other is = absurd (let none_writes = ap is_writer is in omega arith)
 
 -- where the key names the announced slot, the reader holds it
 confirms_named : (shape : Shape) (slots id own : ℕ) (me : Me (Unit {0}) View) (key : ℕ) → key < shape.keys
@@ -406,8 +357,8 @@ confirms_named shape slots id own me key near has sized idle loud state kept at 
     let grips : (s : ℕ) → lends s next ≡ only s slot = λ s. loud_lends next s loud ∙ ap (holds s) after in
     let change : (s : ℕ) → lent (set state.views id next) s ≡ lent state.views s + only s slot
     = λ s.
-    let before : lends s view ≡ 0 = idle_lends view (λ t. ap (holds t) idle) s in
-    omega (arith, lent_after state.views id view next at s, grips s) in
+    let before : lends s view ≡ 0 = lends_none view s (ap (holds s) idle) in
+    omega (arith, total-set (lends s) state.views id view next at, grips s) in
     let less = kept.counts_words.less slot inside in
     let wide = kept.core.wide in
     let few = lent_small shape state kept slot in (
@@ -432,16 +383,8 @@ confirms_named shape slots id own me key near has sized idle loud state kept at 
       record {
         number = same;
         says = refl;
-        holds = record {
-          is =
-              after
-              ∙ (λ j. Reader (sym same j)
-              (On (sym slot_so j) (sym rows_so j) (sym (ap (λ r. is_sized (grip_of r)) after) j)));
-          inside = subst (λ (p : ℕ × Shape). p.0 < p.1.slots) (λ j. (sym slot_so j, sym sized j)) inside;
-          row_set =
-              subst (λ (p : Shape × List Row). IsRowSet (bound_of p.0) p.1) (λ j. (sym sized j, sym rows_so j))
-              step.told.2;
-        };
+        holds = subst (λ (p : Shape × Role). Holds p.0 p.1) (λ j. (sym sized j, sym after j))
+            (record { is = refl; inside = inside; row_set = step.told.2 });
         slot = slot_so;
         gains =
             learned_gains kept at step marked same sized callers acts mine

@@ -18,25 +18,23 @@ use Rattle.nr_core.proofs.Without.{not_reply}
 use Rattle.nr_core.specs.Story.{call_of, ending, entry, map_after}
 use Rattle.nr_core.specs.Writer.{decided, ended, looked, moved_to, renewed, settled, unnamed}
 use Rattle.nr_core.specs.declared.calls.NoSlot.{NoSlot}
-use Rattle.nr_core.specs.declared.calls.Step.{Step}
 use Rattle.nr_core.specs.declared.calls.Step.TheVariants.{Going}
 use Rattle.nr_core.specs.declared.calls.WriterCall.{WriterCall}
 use Rattle.nr_core.specs.declared.calls.WriterCall.TheVariants.{Cancel, Evict, Find, Update}
 use Rattle.nr_core.specs.declared.places.Place.{Place}
 use Rattle.nr_core.specs.declared.places.Place.TheVariants.{Idle, Leaving, Reading, Withdrawing}
 use Rattle.nr_core.specs.declared.roles.Desk.{Desk}
-use Rattle.nr_board.proofs.Publishing.{knows_after}
+use Rattle.nr_board.proofs.Publishing.{evicted_one, knows_after, retires_so}
 use Rattle.nr_board.proofs.Tokens.{grows_both, grows_from}
 use Rattle.nr_board.specs.WriterAnswers.{HasNoSlot, KeyHad, Publishes, RetiresOne, SlotsStay}
 use Rattle.nr_board.specs.Callers.{Gains, Grows, Table, map_at_opening, token}
 use Rattle.nr_core.specs.SlotLists.{SlotLists}
-use Rattle.nr_board.specs.SlotLists.{AreFewSteps, desk_with, lists_of}
+use Rattle.nr_board.specs.SlotLists.{desk_with, lists_of}
 use Rattle.nr_core.specs.Marks.{Marks, with_loads, with_name, with_polls, with_scan, without_name}
 use Rattle.nr_board.proofs.Looks.{HasLooked, rests_own}
 use Rattle.nr_board.proofs.ReadingOn.{settled_quiet}
 use Rattle.nr_board.specs.NamedRows.{ReadsAll}
 use Rattle.nr_board.proofs.KeySets.{before_last, had_before, none_between}
-use Rattle.nr_board.proofs.Retiring.{evicted_one, retires_so}
 use Rattle.nr_board.proofs.Waiting.{lists_shown}
 use Rattle.nr_board.specs.Kinds.{kind_of}
 use Rattle.nr_board.proofs.Keepers.{kept_since}
@@ -88,7 +86,7 @@ look_ends {table = table} {lists = lists} {call = call} {before = before} {after
     let ended_so
     = ends table lists before looks.rests 1 (call_of call) answer lists after refl refl
     (ap (λ (m : Marks). m.reaped) looks.marks)
-    (subst (λ (o : Desk × Step). LeadsIn 1 table (call_of call) o before after) is looks.leads) in (
+    (rw is at looks.leads) in (
       rests_own table lists after ended_so.0,
       (ended_so.1, (same_slots table lists before looks.rests after ended_so.0, looks.marks, looks.heard)),
     )
@@ -123,7 +121,7 @@ pub look_settles : {table : Table} {lists : SlotLists} {call : WriterCall} {rows
     → looked table.shape (desk_with lists Idle) call found ≡ settled table.shape
     (desk_with lists Idle) call rows → HasSet table lists 1 call rows before after
 look_settles {table = table} {call = call} {before = before} {after = after} looks is =
-    has_set looks.rests (subst (λ (o : Desk × Step). LeadsIn 1 table (call_of call) o before after) is looks.leads)
+    has_set looks.rests (rw is at looks.leads)
     looks.marks looks.heard
 
 -- and it had the slot, and put the set there, or found none
@@ -135,6 +133,10 @@ module _ {table : Table} {lists : SlotLists} {steps : ℕ} {call : WriterCall} {
   own_lists : lists ≡ lists_of (token before)
   own_lists = sym (lists_shown table lists before set.rests)
 
+  -- the same of the table and the lists that its token shows
+  own_set : HasSet (token before).table (lists_of (token before)) steps call rows before mid
+  own_set = rw (own_table, own_lists) at set
+
   pub has_published : {given : WriterCall} {after_lists : SlotLists} {after : MapSeat} → given ≡ call
       → (put : PublishesSet table given rows mid lists after after_lists)
       → RestsAt (token after).table after_lists after
@@ -142,48 +144,46 @@ module _ {table : Table} {lists : SlotLists} {steps : ℕ} {call : WriterCall} {
   has_published {after_lists = after_lists} {after = after} is put =
       let here
       = subst
-      (λ (c : WriterCall). (p : PublishesSet table c rows mid lists after after_lists) × (p.slot ≡ put.slot))
-      is (put, refl) in
+      (λ (p : WriterCall × Table × SlotLists). (q : PublishesSet p.1 p.0 rows mid p.2 after after_lists)
+      × (q.slot ≡ put.slot))
+      (λ j. (is j, own_table j, own_lists j)) (put, refl) in
       let published = here.0 in
       let all
       = grows_both {sum = steps + 2 * length rows + 2 + published.steps} (omega arith) set.grows published.grows in
-      let rests_after : RestsAt table after_lists after
+      let rests_after : RestsAt (token before).table after_lists after
       = record {
         writes = published.writes;
-        slots = published.slots ∙ set.rests.slots;
+        slots = published.slots ∙ own_set.rests.slots;
         reaped =
             ap (λ (s : SlotLists). s.reaped) published.retires
             ∙ ap (λ (l : List Bool). slice_set l published.slot false)
-            (set.rests.reaped ∙ ap (λ (m : Marks). m.reaped) (sym set.marks))
+            (own_set.rests.reaped ∙ ap (λ (m : Marks). m.reaped) (sym set.marks))
             ∙ ap (λ (m : Marks). m.reaped) (sym published.marks);
         own = all.own;
       } in
-      let lists_after = lists_shown table after_lists after rests_after in
+      let lists_after = lists_shown (token before).table after_lists after rests_after in
       let log = published.log in
       let done_then
       = (legal_goes_on_lem (map_at_opening (token before).table) log (entry 0 (call_of call) reply.Done)).1.1
       (subst (IsLegal (map_at_opening (token before).table)) published.seen all.legal) in (
-        rests_own table after_lists after rests_after,
+        rests_own (token before).table after_lists after rests_after,
         record {
           searched = published.steps;
           slot = published.slot;
-          inside = subst (λ (t : Table). published.slot < t.shape.slots) own_table published.inside;
+          inside = published.inside;
           mid = published.mid;
           scanned = published.scanned;
           loads = published.loads;
-          took = rw own_lists at (rw set.heard at (rw own_table at published.took));
+          took = rw set.heard at published.took;
           heard = published.heard;
-          few = subst (λ (t : Table). AreFewSteps t published.steps) own_table published.few;
+          few = published.few;
           fresh = ap (λ (s : SlotLists). s.fresh) (lists_after ∙ published.retires);
-          numbers =
-              ap (λ (s : SlotLists). s.numbers) lists_after ∙ published.numbers
-              ∙ ap (λ (s : SlotLists). s.numbers) own_lists;
+          numbers = ap (λ (s : SlotLists). s.numbers) lists_after ∙ published.numbers;
           retires =
               retires_so published.word (token before) published.mid.retired (token after).retired
               (ap (λ (s : SlotLists). s.retired) (lists_after ∙ published.retires)) (map_after before.me.0.shape log)
               call done_then.1
-              (published.swaps.state
-              ∙ ap (λ (t : Table). kind_of (state_of (map_after t.shape log) (key_of call))) own_table)
+              published.swaps.state
               (ap (λ (m : Marks). get_or m.names (key_of call) 0) (sym set.marks) ∙ published.swaps.name);
           number = published.number;
           count = published.count;
@@ -202,29 +202,26 @@ module _ {table : Table} {lists : SlotLists} {steps : ℕ} {call : WriterCall} {
       → RestsAt (token after).table after_lists after
       × HasNoSlot steps (call_of call) (token before) (token after) counts
   has_lacked {after_lists = after_lists} {after = after} {counts = counts} is lacked =
-      let lacking = subst (λ (c : WriterCall). LacksSlot table c mid lists after after_lists counts) is lacked in
-      let retired_are = ap (λ (s : SlotLists). s.retired) own_lists in
+      let lacking = rw (is, own_table, own_lists) at lacked in
       let all = grows_both refl set.grows lacking.grows in
-      let rests_lists : RestsAt table lists after = record {
+      let rests_lists : RestsAt (token before).table (lists_of (token before)) after = record {
         writes = lacking.writes;
-        slots = set.rests.slots;
-        reaped = set.rests.reaped
+        slots = own_set.rests.slots;
+        reaped = own_set.rests.reaped
             ∙ ap (λ (m : Marks). m.reaped) (sym set.marks) ∙ ap (λ (m : Marks). m.reaped) (sym lacking.marks);
         own = all.own;
       } in (
-        rests_own table after_lists after
-            (subst (λ (s : SlotLists). RestsAt table s after) (sym lacking.same) rests_lists),
+        rests_own (token before).table after_lists after (rw lacking.same rests_lists),
         record {
           searched = lacking.steps;
           loads = lacking.loads;
-          all = rw retired_are at (rw set.heard at (rw own_table at lacking.searched));
+          all = rw set.heard at lacking.searched;
           grows = all;
           readers = none_between (steps + lacking.steps) (token before) [] (token after) set.rests.own refl all;
           lacks = lacking.lacks;
-          noted = λ counted. rw set.grows.pasts at (rw own_table at (lacking.noted (ap (λ (t : Table). t.announcers)
-              own_table ∙ counted)));
-          kept = rw retired_are at (rw own_table at (kept_since (grows_from set.grows) lacking.kept));
-          slots = same_slots table lists before set.rests after rests_lists;
+          noted = λ counted. rw set.grows.pasts at (lacking.noted counted);
+          kept = kept_since (grows_from set.grows) lacking.kept;
+          slots = same_slots (token before).table (lists_of (token before)) before own_set.rests after rests_lists;
           marks =
               lacking.marks
               ∙ ap (λ (m : Marks). with_scan m after.me.0.marks.polls (m.loads ++ lacking.loads)) set.marks;
@@ -237,7 +234,7 @@ module
     (looks : HasLooked table lists call word before mid)
     (leads : looked table.shape (desk_with lists Idle) call word ≡ (desk_with lists place, Going)) where
   pub about_to_go : LeadsIn 1 table (call_of call) (desk_with lists place, Going) before mid
-  about_to_go = subst (λ (o : Desk × Step). LeadsIn 1 table (call_of call) o before mid) leads looks.leads
+  about_to_go = rw leads at looks.leads
 
   swap_ends : (answer : Reply) (after_lists : SlotLists) (after : MapSeat) → after_lists.slots ≡ lists.slots
       → after_lists.reaped ≡ lists.reaped → after.me.0.marks.reaped ≡ mid.me.0.marks.reaped
@@ -332,8 +329,7 @@ module _ {table : Table} {lists : SlotLists} {call given : WriterCall} {found : 
   pub about_to_read : {slot : ℕ} → slot ≡ slot_of found
       → WritesAt table (moved_to (desk_of mid.me.0.role) (Reading given slot [])) mid × (slot < table.shape.slots)
   about_to_read {slot = slot} same = (
-    subst (λ (p : Desk × WriterCall × ℕ). WritesAt table (moved_to p.0 (Reading p.1 p.2 [])) mid)
-        (λ j. (ap desk_of (sym leads_there.writes.role) j, sym is j, sym same j)) leads_there.writes,
+    rw (ap desk_of leads_there.writes.role, is, same) leads_there.writes,
     omega (arith, leads_there.writes.room.place.0, same),
   )
 
@@ -388,11 +384,6 @@ module
       ≡ read.had.log ++ ending (model.Update key batch) (renewed table.shape at_read (Update key batch) left).1
   seen_by left is = rw (sym is) read.had.seen
 
-  -- the map before the update is that of the table
-  own_map : (log : List Entry) (number : ℕ) → state_of (map_after table.shape log) key ≡ states.Rows number rows
-      → state_of (map_after before.me.0.shape log) key ≡ states.Rows number rows
-  own_map log number had = ap (λ (t : Table). state_of (map_after t.shape log) key) read.own ∙ had
-
   pub has_refused : (why : ApplyFault) → applied (bound_of table.shape) rows batch ≡ Err why
       → RestsAt (token after).table lists after
       × ((gains : Gains (2 * length rows + 2) (model.Update key batch) (token before)
@@ -407,7 +398,8 @@ module
       (sym ended_so.1.seen ∙ seen_by (Err why) is) in
       let had
       = ap (λ (l : List Entry). state_of (map_after before.me.0.shape l) key) log_is
-      ∙ own_map read.had.log read.had.number read.had.state in (
+      ∙ ap (λ (t : Table). state_of (map_after t.shape read.had.log) key) read.own
+      ∙ read.had.state in (
         rests_own table lists after ended_so.0,
         (
           ended_so.1,

@@ -1,8 +1,8 @@
 -- What the writer's steps tell of its seat.
-use Rattle.std.proofs.Common.{List, [], ap, subst, sym, ℕ, ◌++◌, ◌∙◌, ◌≡◌}
+use Rattle.std.proofs.Common.{List, [], ap, subst, sym, ℕ, ◌∙◌, ◌≡◌}
 use Rattle.nr_model.specs.declared.calls.Call.{Call}
 use Rattle.nr_core.specs.Core.{AreNumbers}
-use Rattle.nr_core.specs.Story.{call_of, ending, map_after}
+use Rattle.nr_core.specs.Story.{call_of, map_after}
 use Rattle.nr_core.specs.Writer.{looked, went}
 use Rattle.nr_core.specs.declared.calls.Step.{Step}
 use Rattle.nr_core.specs.declared.calls.WriterCall.{WriterCall}
@@ -13,7 +13,7 @@ use Rattle.nr_core.specs.declared.roles.Role.TheVariants.{Writer}
 use Rattle.nr_core.specs.declared.shape.Shape.{Shape}
 use Rattle.nr_board.proofs.Tokens.{seat_grows}
 use Rattle.nr_board.specs.Callers.{Table, map_seen, token}
-use Rattle.nr_board.specs.Plays.{Finds, Leads, Looked, Put, Room, Went, call_at, next_put}
+use Rattle.nr_board.specs.Plays.{Leads, Looked, Put, Room, Went, call_at, next_put}
 use Rattle.nr_board.specs.WriterSeats.{GoesOn, GoesTo, LeadsTo, MapSeat, PutsTo}
 
 -- the desk with its place as it is
@@ -59,10 +59,8 @@ module _ (table : Table) (before after : MapSeat) (same : after.table_id ≡ bef
         subst (λ (s : Shape). LeadsTo table (call_at desk.place) (went s desk desk.place found) before after) shape_is
         (leads_seat (call_at desk.place) (went before.me.0.shape desk desk.place found) told.leads);
     log = told.log;
-    seen =
-        told.seen
-        ∙ ap (λ (s : Shape). told.log ++ ending (call_at desk.place) (went s desk desk.place found).1) shape_is;
-    finds = subst (λ (s : Shape). Finds s desk.place found told.log before.me.0.marks) shape_is told.finds;
+    seen = rw shape_is at told.seen;
+    finds = rw shape_is at told.finds;
     notes = told.notes;
     marks = rw (sym shape_is) told.marks;
     heard = told.heard;

@@ -1,18 +1,15 @@
 -- The writer's steps on the table: the look of each call, and every later step.
-use Rattle.std.proofs.Common.{◌⊎◌, eq-eqb, inl, inr, ⊎_elim, nat_le, zero, ◌≡◌, ℕ, suc, ◌+◌, ◌-◌, ◌*◌, ◌<◌, ◌≤◌, List}
-use Rattle.std.proofs.Common.{[], ◌∷◌, ◌++◌, Bool, true, false, cond, map, set, get_or, le-leb, length, take, refl, sym}
-use Rattle.std.proofs.Common.{ap, ◌∙◌, subst, arith, append-nil}
+use Rattle.std.proofs.Common.{◌⊎◌, eq-eqb, inl, inr, ⊎_elim, nat_le, zero, ◌≡◌, ℕ, suc, ◌+◌, ◌*◌, ◌<◌, ◌≤◌, List, []}
+use Rattle.std.proofs.Common.{◌∷◌, ◌++◌, cond, map, set, get_or, le-leb, length, take, refl, sym, ap, ◌∙◌, subst, arith}
 use Rattle.std.specs.Prelude.{None, Some}
 use mathlib.Core.Option.{some}
 use lib.ListN.{get_elem?}
-use Rattle.atomic_table.specs.Seated.{TableId}
 use Rattle.atomic_table.specs.Table.{Allows, Me, State, carried_after}
 use Rattle.atomic_table.proofs.Lists.{at_map}
 use Rattle.nr_model.specs.Histories.{Entry}
-use Rattle.nr_model.specs.Maps.{call_key, reply_to, state_of}
+use Rattle.nr_model.specs.Maps.{call_key, state_of}
 use Rattle.nr_model.specs.declared.rows.Row.{Row}
 use Rattle.nr_model.specs.declared.calls.Call.{Call}
-use Rattle.nr_model.specs.declared.calls.Reply.TheVariants as reply
 use Rattle.nr_words.specs.SetWords.{encode}
 use Rattle.nr_core.proofs.Go.{goes}
 use Rattle.nr_core.proofs.Look.{looks}
@@ -26,13 +23,13 @@ use Rattle.nr_core.specs.Operations.{becomes, going, target_of}
 use Rattle.nr_core.specs.declared.operation.Operation.{Operation}
 use Rattle.nr_core.specs.declared.operation.Operation.TheVariants.{Load, Store, Swap}
 use Rattle.nr_core.specs.Refusals.{if_not_busy}
-use Rattle.nr_core.specs.Roles.{held, holds, is_by, is_writer, taken, is_reader}
+use Rattle.nr_core.specs.Roles.{held, holds, is_by, is_writer, is_reader}
 use Rattle.nr_words.specs.KeyWords.{naming, same_count}
 use Rattle.nr_core.specs.Slots.{content, departures, bound_of, layout, name_number, slot_room}
 use Rattle.nr_core.specs.States.{key_of, retired_at}
-use Rattle.nr_core.specs.Steps.{CanStep, Goes, Looks, Stepped, Telling}
+use Rattle.nr_core.specs.Steps.{Goes, Looks, Stepped, Telling}
 use Rattle.nr_core.specs.Story.{call_of, ending, ending_at, map_after}
-use Rattle.nr_core.specs.Writer.{ended, looked, moved_to, swapped, went}
+use Rattle.nr_core.specs.Writer.{looked, moved_to, went}
 use Rattle.nr_core.specs.declared.calls.NoSlot.{NoSlot}
 use Rattle.nr_core.specs.declared.calls.Step.{Step}
 use Rattle.nr_core.specs.declared.calls.Step.TheVariants.{Ended, Going}
@@ -52,7 +49,6 @@ use Rattle.nr_core.specs.Marked.{IsPresent, MarkTelling, NotesPresent, Remarked}
 use Rattle.nr_core.proofs.Choices.{by_cases, on_test}
 use Rattle.nr_board.proofs.Brings.{given_brings, reads_no_fill, wants_brings, writer_entries}
 use Rattle.nr_board.proofs.Learning.{shows_kind}
-use Rattle.nr_board.proofs.Polled.{PolledAll, go_polled, look_polled}
 use Rattle.nr_core.specs.Marks.{Marks, Past, gripped}
 use Rattle.nr_board.proofs.Heard.{zero_at}
 use Rattle.nr_board.proofs.Lift.{Choice, KeepsLent, content_no_count, key_inside, key_no_count, knows_pasts, lends_on}
@@ -65,17 +61,11 @@ use Rattle.nr_words.specs.Places.{total_of}
 use Rattle.std.proofs.lemmas.Bool.{leb-true}
 use Rattle.nr_board.proofs.Moves.{ActsGo, NamesGo, learned, learning, names_go}
 use Rattle.nr_board.specs.Entries.{AreCallers, acts_told, to_depart}
-use Rattle.nr_board.proofs.Room.{room_at}
-use Rattle.nr_board.proofs.Shortage.{Shortage, go_short, lacks_so, look_short}
-use Rattle.nr_board.specs.Callers.{caller_of}
-use Rattle.nr_board.specs.Plays.{Advances, Finds, Lacks, Leads, Looked, NotesTell, Put, SwapsAt, SwapsOrPuts, Room}
-use Rattle.nr_board.specs.Plays.{Went, call_at, next_put, put_place}
-use Rattle.nr_board.specs.Rule.{Fits, Kept, counts, marks_of, role_of}
+use Rattle.nr_board.proofs.Shortage.{Shortage, go_short, lacks_so, look_short, room_at}
+use Rattle.nr_board.specs.Plays.{Advances, Finds, Leads, Looked, NotesTell, Put, SwapsAt, SwapsOrPuts, Room, Went}
+use Rattle.nr_board.specs.Plays.{call_at, next_put, put_place}
+use Rattle.nr_board.specs.Rule.{Fits, Kept, marks_of, role_of}
 use Rattle.nr_board.specs.Views.{View, desk_of, grip_of, caller_number}
-
--- the writer's own entries are told by 0
-writer_is : (role : Role) (desk : Desk) → role ≡ Writer desk → is_by (caller_number role) role ≡ true
-writer_is role desk is = ap (λ r. is_by (caller_number r) r) is
 
 pub writer_shape : (shape : Shape) (log : List Entry) (view : View) (desk : Desk) → view.role ≡ Writer desk
     → Fits shape log view → view.shape ≡ shape
@@ -112,9 +102,9 @@ module
 
   room_after : Room view.shape outcome.0
   room_after =
-      subst (λ (s : Shape). Room s outcome.0) (sym sized)
-      (room_at shape _ (set (map role_of state.views) id step.after) (kept.log ++ step.entries) step.core id
-      outcome.0 there_after)
+      rw sized
+      (room_at shape _ (set (map role_of state.views) id step.after) (kept.log ++ step.entries) step.core id outcome.0
+      there_after)
 
   numbers_after : AreNumbers view.shape (map_after view.shape (kept.log ++ step.entries)) outcome.0.numbers
   numbers_after = rw sized (step.core.knows id (Writer outcome.0) there_after).numbers
@@ -122,36 +112,18 @@ module
   abbrev pub next_view : View
   next_view = learned view step.after (kept.log ++ step.entries) step.entries marked.now marked.news
 
-  short_after : (counts : NoSlot) → outcome.1 ≡ Ended (writer.NoSlot counts)
-      → Shortage shape kept.log desk call outcome counts
-      → PolledAll shape desk.retired marked.now.polls → (table : TableId)
-      → Lacks call counts (caller_of table next_view)
-  short_after counts without shortage polled =
-      let none_added : step.entries ≡ [] = entries_told ∙ ap (ending call) without in
-      let same_log = sym (append-nil kept.log) ∙ ap (λ (l : List Entry). kept.log ++ l) (sym none_added) in
-      let desk_is : outcome.0 ≡ moved_to desk Idle = shortage.none.same in
-      lacks_so shape _ (set (map role_of state.views) id step.after) (kept.log ++ step.entries) step.core id outcome.0
-      there_after
-      (subst (λ (d : Desk). shape.slots ≤ d.fresh) (sym desk_is) shortage.full)
-      (λ slot. ap (λ (d : Desk). taken slot d.place) desk_is)
-      call counts
-      (shortage.none.counted
-      ∙ ap (λ (d : Desk). record { live = shape.slots - length d.retired; held = length d.retired })
-      (sym desk_is))
-      (subst (λ (l : List Entry). reply_to (map_after shape l) call ≡ reply.Done) same_log shortage.done)
-      next_view (subst (λ (d : Desk). PolledAll shape d.retired marked.now.polls) (sym desk_is) polled) sized refl
-      role_told
+  -- what an outcome with no slot would say
+  abbrev pub ShortSo : Type 0
+  ShortSo = (counts : NoSlot) → outcome.1 ≡ Ended (writer.NoSlot counts)
+      → Shortage shape desk call outcome counts marked.now.polls (kept.log ++ step.entries)
 
-  pub leads_so : ((counts : NoSlot) → outcome.1 ≡ Ended (writer.NoSlot counts)
-      → Shortage shape kept.log desk call outcome counts
-      × PolledAll shape desk.retired marked.now.polls) → Advances (ending call outcome.1) view next_view
-      → Leads call outcome view next_view
+  pub leads_so : ShortSo → Advances (ending call outcome.1) view next_view → Leads call outcome view next_view
   leads_so short advances = record {
     role = role_told;
     advances = advances;
     room = room_after;
     numbers = numbers_after;
-    short = λ counts without. short_after counts without (short counts without).0 (short counts without).1;
+    short = λ counts without. lacks_so next_view (short counts without) sized role_told;
   }
 
   -- the writer's view after the step
@@ -159,13 +131,11 @@ module
       → Choice shape id view operation tells notes state kept step marked then
   writes then tell =
       learning kept at step marked (ap caller_number role_told ∙ sym (ap caller_number is))
-      sized callers_told acts_told_so names then (writer_is view.role desk is) no_news (ending call outcome.1)
-      entries_told tell
+      sized callers_told acts_told_so names then (ap (λ r. is_by (caller_number r) r) is) no_news
+      (ending call outcome.1) entries_told tell
 
   -- to which the call leads, whatever the desk
-  pub leads_on : ((counts : NoSlot) → outcome.1 ≡ Ended (writer.NoSlot counts)
-      → Shortage shape kept.log desk call outcome counts × PolledAll shape desk.retired marked.now.polls)
-      → (then : Desk → View → Type 0) → (Leads call outcome view next_view → then desk next_view)
+  pub leads_on : ShortSo → (then : Desk → View → Type 0) → (Leads call outcome view next_view → then desk next_view)
       → Choice shape id view operation tells notes state kept step marked
       (λ next. (other : Desk) → view.role ≡ Writer other → then other next)
   leads_on short then tell =
@@ -185,7 +155,7 @@ looks_so shape slots id me desk call is idle given near =
     let then : ℕ → View → Type 0
     = λ found next. (other : Desk) → view.role ≡ Writer other → Looked other call found view next in
     lifts shape id view operation tells notes slots me.1 then view.pasts
-    (subst (λ r. CanStep shape id r operation tells) (sym is) (looks shape id desk call idle given near))
+    (rw is (looks shape id desk call idle given near))
     (looks_marked role_of marks_of shape id view view.pasts desk call idle near is) (knows_pasts shape id view)
     (sees_plain shape id view operation tells notes then (key_inside shape (key_of call) near)
     (key_no_count shape (key_of call) near)
@@ -194,17 +164,13 @@ looks_so shape slots id me desk call is idle given near =
     let found : ℕ = get_or kept.counted (key_of call) 0 in
     let outcome = looked shape desk call found in
     let c = call_of call in
-    let there = at_map role_of state.views id view at ∙ ap some is in
     let size = writer_shape shape kept.log view desk is (kept.fits id view at) in
     leads_on is kept at step marked marked.told.1 c outcome step.told.0 step.told.1
     (writer_entries shape c outcome.1 (subst (λ (k : ℕ). k < shape.keys) (sym (key_same call)) near)
     (given_brings (bound_of shape) call given))
-    (names_go view marked.now (λ _. ap (λ (m : Marks). m.names) marked.told.0)) (λ counts without. (
-      look_short shape kept.counted (map role_of state.views) kept.log kept.core id desk there counts call near without,
-      look_polled shape
-          view.marks desk call found step.after (kept.log ++ step.entries) marked.now marked.news marked.told
-          (counts, without),
-    ))
+    (names_go view marked.now (λ _. ap (λ (m : Marks). m.names) marked.told.0))
+    (λ counts. look_short shape view.marks desk call found step.after (kept.log ++ step.entries) marked.now marked.news
+    counts marked.told)
     (λ other. Looked other call found view) (λ leads.
     let next = learned view step.after (kept.log ++ step.entries) step.entries marked.now marked.news in
     record {
@@ -214,45 +180,22 @@ looks_so shape slots id me desk call is idle given near =
     }))
 
 -- no later step of a call learns of readers
-put_quiet : (b : Bool) (marks : Marks) (at slot : ℕ) (rows : List Row) (word : ℕ) (after : Role) (log : List Entry)
-    (now : Marks) (news : List Past)
-    → PutsMarks b marks at slot rows word after log now news → news ≡ []
-put_quiet true marks at slot rows word after log now news told = told.1
-put_quiet false marks at slot rows word after log now news told = told.4
-
 went_quiet : (shape : Shape) (marks : Marks) (known : List Past) (desk : Desk) (place : Place) (word : ℕ) (after : Role)
     (log : List Entry)
     (now : Marks) (news : List Past) → went_marks shape marks known desk place word after log now news → news ≡ []
 went_quiet shape marks known desk (Searching call rows poll) word after log now news told = told.0
 went_quiet shape marks known desk (Putting call rows slot departed index) word after log now news told =
-    put_quiet (nat_le index (2 * length rows)) marks (key_of call) slot rows word after log now news told
+    by_cases (λ b. PutsMarks b marks (key_of call) slot rows word after log now news → news ≡ [])
+    (nat_le index (2 * length rows)) (λ _ puts. puts.1) (λ _ publishes. publishes.4) told
 went_quiet shape marks known desk other word after log now news told = told.1
 
 -- a list that is changed at one place
 changed_at : (l : List ℕ) (place x at n : ℕ) → get_or (set l place x) at 0 ≡ n → (get_or l at 0 ≡ n) ⊎ (x ≡ n)
-changed_at [] place x at n is = inl is
 changed_at (y ∷ l) zero x zero n is = inr is
-changed_at (y ∷ l) zero x (suc at) n is = inl is
-changed_at (y ∷ l) (suc place) x zero n is = inl is
 changed_at (y ∷ l) (suc place) x (suc at) n is = changed_at l place x at n is
+changed_at l place x at n is = inl is
 
 -- after a later step of a call a key names what it named before, or the slot into which the call put its set
-put_names : (b : Bool) (marks : Marks) (at mine : ℕ) (rows : List Row) (word : ℕ) (after : Role) (log : List Entry)
-    (now : Marks) (news : List Past)
-    → PutsMarks b marks at mine rows word after log now news
-    → (key slot : ℕ) → get_or now.names key 0 ≡ suc slot → (get_or marks.names key 0 ≡ suc slot) ⊎ (slot ≡ mine)
-put_names true marks at mine rows word after log now news told key slot is =
-    inl (ap (λ (m : Marks). get_or m.names key 0) (sym told.0) ∙ is)
-put_names false marks at mine rows word after log now news told key slot is =
-    ⊎_elim inl (λ (e : suc mine ≡ suc slot). inr (omega arith))
-    (changed_at marks.names at (suc mine) key (suc slot) (ap (λ (m : Marks). get_or m.names key 0) (sym told.3) ∙ is))
-
-poll_names : (b : Bool) (shape : Shape) (marks : Marks) (known : List Past) (desk : Desk) (call : WriterCall) (poll : ℕ)
-    (log : List Entry) (now : Marks)
-    → PollTells b shape known desk call poll log marks now → now.names ≡ marks.names
-poll_names true shape marks known desk call poll log now told = ap (λ (m : Marks). m.names) told
-poll_names false shape marks known desk call poll log now told = ap (λ (m : Marks). m.names) told.0
-
 went_names : (shape : Shape) (marks : Marks) (known : List Past) (desk : Desk) (place : Place) (word : ℕ) (after : Role)
     (log : List Entry) (now : Marks) (news : List Past) (heard : List ℕ)
     → went_marks shape marks known desk place word after log now news → (key slot : ℕ)
@@ -263,16 +206,20 @@ went_names shape marks known desk (Leaving at) word after log now news heard tol
     (changed_at marks.names at 0 key (suc slot) (ap (λ (m : Marks). get_or m.names key 0) (sym told.0) ∙ is))
 went_names shape marks known desk (Searching call rows poll) word after log now news heard told key slot is =
     inl
-    (ap (λ (l : List ℕ). get_or l key 0)
-    (sym
-    (poll_names (same_count word (retired_at desk poll).arrivals) shape marks known desk call poll log now
-    told.1))
-    ∙ is)
+    (by_cases (λ b. PollTells b shape known desk call poll log marks now → get_or marks.names key 0 ≡ suc slot)
+    (same_count word (retired_at desk poll).arrivals)
+    (λ _ taken. ap (λ (m : Marks). get_or m.names key 0) (sym taken) ∙ is)
+    (λ _ missed. ap (λ (m : Marks). get_or m.names key 0) (sym missed.0) ∙ is) told.1)
 went_names shape marks known desk (Putting call rows mine departed index) word after log now news heard told key slot
     is =
-    ⊎_elim inl
-    (λ (e : slot ≡ mine). inr (ap (λ (n : ℕ). get_or (set heard mine 0) n 0) e ∙ zero_at heard mine))
-    (put_names (nat_le index (2 * length rows)) marks (key_of call) mine rows word after log now news told key slot is)
+    by_cases (λ b. PutsMarks b marks (key_of call) mine rows word after log now news
+    → (get_or marks.names key 0 ≡ suc slot) ⊎ (get_or (set heard mine 0) slot 0 ≡ 0))
+    (nat_le index (2 * length rows))
+    (λ _ puts. inl (ap (λ (m : Marks). get_or m.names key 0) (sym puts.0) ∙ is))
+    (λ _ publishes. ⊎_elim inl
+    (λ (e : suc mine ≡ suc slot). inr (rw (let same : slot ≡ mine = omega arith in same) (zero_at heard mine)))
+    (changed_at marks.names (key_of call) (suc mine) key (suc slot)
+    (ap (λ (m : Marks). get_or m.names key 0) (sym publishes.3) ∙ is))) told
 went_names shape marks known desk other word after log now news heard told key slot is =
     inl (ap (λ (m : Marks). get_or m.names key 0) (sym told.0) ∙ is)
 
@@ -309,111 +256,97 @@ module
   abbrev StandsAt : Place → Type 0
   StandsAt = AtPlace shape words (map_after shape log) (held roles) desk.fresh desk.retired
 
-  stands_now : StandsAt desk.place
-  stands_now = (core.knows id (Writer desk) there).place
+  near_call : (call : WriterCall) → key_of call < shape.keys → call_key (call_of call) < shape.keys
+  near_call call near = rw (key_same call) near
+
+  of_set : (call : WriterCall) (rows : List Row) (step : Step)
+      → Wants shape words (map_after shape log) (held roles) call rows → AreCallers shape (ending (call_of call) step)
+  of_set call rows step wants =
+      writer_entries shape (call_of call) step (near_call call wants.near)
+      (wants_brings shape words (map_after shape log) (held roles) call rows wants)
+
+  swaps : (marks : Marks)
+      → ((key : ℕ) → key < shape.keys → get_or marks.names key 0 ≡ name_number (get_or words key 0))
+      → (key : ℕ) → key < shape.keys → SwapsAt shape key (get_or words key 0) log marks
+  swaps marks names key near = record {
+    state = shows_kind shape words (get_or words key 0) (state_of (map_after shape log) key) (core.shows key near);
+    name = names key near;
+  }
+
+  on_key : (key : ℕ) → key < shape.keys → OnPlain shape (Load key)
+  on_key key near = (key_inside shape key near, key_no_count shape key near)
+
+  on_content : (slot index : ℕ) → slot < shape.slots → index < slot_room shape
+      → OnPlain shape (Load (content shape slot index))
+  on_content slot index near low = (content_inside shape slot index near low, content_no_count shape slot index low)
 
   -- a call that goes on ends with an entry of the writer's
-  entries_there : if_not_busy desk.place ≡ None → (found : ℕ)
-      → AreCallers shape (ending (call_at desk.place) (went shape desk desk.place found).1)
-  entries_there busy found = go desk.place busy stands_now
-    where
-      near_call : (call : WriterCall) → key_of call < shape.keys → call_key (call_of call) < shape.keys
-      near_call call near = subst (λ (k : ℕ). k < shape.keys) (sym (key_same call)) near
-
-      of_set : (call : WriterCall) (rows : List Row) (step : Step)
-          → Wants shape words (map_after shape log) (held roles) call rows
-          → AreCallers shape (ending (call_of call) step)
-      of_set call rows step wants =
-          writer_entries shape (call_of call) step (near_call call wants.near)
-          (wants_brings shape words (map_after shape log) (held roles) call rows wants)
-
-      go : (at : Place) → if_not_busy at ≡ None → StandsAt at
-          → AreCallers shape (ending (call_at at) (went shape desk at found).1)
-      go Idle idle stands = absurd (no_some (Some refuse.NotBusy) refuse.NotBusy refl idle)
-      go (Reading call slot got) busy reads =
-          reads_no_fill shape desk call slot (got ++ found ∷ []) (near_call call reads.near)
-      go (Leaving key) busy stands = ((stands.1.near, inl (refl, tt)), tt)
-      go (Withdrawing key) busy stands = ((stands.near, inl (refl, tt)), tt)
-      go (Searching call rows poll) busy stands =
-          of_set call rows (went shape desk (Searching call rows poll) found).1 stands.0
-      go (Putting call rows slot departed index) busy stands =
-          of_set call rows (went shape desk (Putting call rows slot departed index) found).1 stands.wants
+  entries_there : (place : Place) → if_not_busy place ≡ None → StandsAt place → (found : ℕ)
+      → AreCallers shape (ending (call_at place) (went shape desk place found).1)
+  entries_there Idle idle stands found = absurd (no_some (Some refuse.NotBusy) refuse.NotBusy refl idle)
+  entries_there (Reading call slot got) busy reads found =
+      reads_no_fill shape desk call slot (got ++ found ∷ []) (near_call call reads.near)
+  entries_there (Leaving key) busy stands found = ((stands.1.near, inl (refl, tt)), tt)
+  entries_there (Withdrawing key) busy stands found = ((stands.near, inl (refl, tt)), tt)
+  entries_there (Searching call rows poll) busy stands found =
+      of_set call rows (went shape desk (Searching call rows poll) found).1 stands.0
+  entries_there (Putting call rows slot departed index) busy stands found =
+      of_set call rows (went shape desk (Putting call rows slot departed index) found).1 stands.wants
 
   -- the words of the key's set are read on, and a swap finds the key's word
   finds_so : (marks : Marks)
       → ((key : ℕ) → key < shape.keys → get_or marks.names key 0 ≡ name_number (get_or words key 0))
-      → Finds shape desk.place (get_or words (target_of (going shape desk desk.place)) 0) log marks
-  finds_so marks names = go desk.place stands_now
-    where
-      swaps : (key : ℕ) → key < shape.keys → SwapsAt shape key (get_or words key 0) log marks
-      swaps key near = record {
-        state = shows_kind shape words (get_or words key 0) (state_of (map_after shape log) key)
-            (core.shows key near);
-        name = names key near;
-      }
-
-      go : (at : Place) → StandsAt at → Finds shape at (get_or words (target_of (going shape desk at)) 0) log marks
-      go (Reading call slot got) reads = (
-        reads.rows,
-        read_set shape words roles log core (key_of call) slot got reads,
-        read_next shape words roles log
-            core (key_of call) slot got reads
-            ∙ ap (λ (n : ℕ). take n (encode reads.rows)) (let one : suc (length got) ≡ length got + 1 = omega arith in
-            one),
-        reads.more,
-        reads.number,
-        reads.full,
-      )
-      go (Leaving key) stands = swaps key stands.1.near
-      go (Withdrawing key) stands = swaps key stands.near
-      go (Putting call rows slot departed index) stands =
-          by_cases (λ b. SwapsOrPuts b shape (key_of call) (get_or words
-          (target_of (cond {A = Operation} b (Store (content shape slot index) (get_or (encode rows) index 0))
-          (Swap (key_of call) (naming slot departed)))) 0) log marks) (nat_le index (2 * length rows))
-          (λ _. tt) (λ _. swaps (key_of call) stands.wants.near)
-      go other stands = tt
+      → (place : Place) → StandsAt place
+      → Finds shape place (get_or words (target_of (going shape desk place)) 0) log marks
+  finds_so marks names (Reading call slot got) reads = (
+    reads.rows,
+    read_set shape words roles log core (key_of call) slot got reads,
+    read_next shape words roles log
+        core (key_of call) slot got reads
+        ∙ ap (λ (n : ℕ). take n (encode reads.rows)) (let one : suc (length got) ≡ length got + 1 = omega arith in one),
+    reads.more,
+    reads.number,
+    reads.full,
+  )
+  finds_so marks names (Leaving key) stands = swaps marks names key stands.1.near
+  finds_so marks names (Withdrawing key) stands = swaps marks names key stands.near
+  finds_so marks names (Putting call rows slot departed index) stands =
+      by_cases (λ b. SwapsOrPuts b shape (key_of call) (get_or words
+      (target_of (cond {A = Operation} b (Store (content shape slot index) (get_or (encode rows) index 0))
+      (Swap (key_of call) (naming slot departed)))) 0) log marks) (nat_le index (2 * length rows))
+      (λ _. tt) (λ _. swaps marks names (key_of call) stands.wants.near)
+  finds_so marks names other stands = tt
 
   -- a later step of a call is one of these
-  going_on : (announcers : ℕ) (heard : List ℕ) → if_not_busy desk.place ≡ None
-      → PollsHeard announcers desk heard desk.place
-      → OnPlain shape (going shape desk desk.place) ⊎ Polls shape announcers heard (going shape desk desk.place)
-  going_on announcers heard busy enough = go desk.place busy enough stands_now
-    where
-      on_key : (key : ℕ) → key < shape.keys → (key < total_of (layout shape)) × IsNoCount shape key
-      on_key key near = (key_inside shape key near, key_no_count shape key near)
-
-      on_content : (slot index : ℕ) → slot < shape.slots → index < slot_room shape
-          → (content shape slot index < total_of (layout shape)) × IsNoCount shape (content shape slot index)
-      on_content slot index near low = (content_inside shape slot index near low, content_no_count shape slot index low)
-
-      go : (at : Place) → if_not_busy at ≡ None → PollsHeard announcers desk heard at → StandsAt at
-          → OnPlain shape (going shape desk at) ⊎ Polls shape announcers heard (going shape desk at)
-      go Idle idle _ stands = absurd (no_some (Some refuse.NotBusy) refuse.NotBusy refl idle)
-      go (Reading call slot got) busy _ reads =
-          let set = read_set shape words roles log core (key_of call) slot got reads in
-          let few = reads.more in
-          inl
-          (on_content slot (length got)
-          (named_inside shape words roles log core (key_of call) slot reads.near reads.names)
-          (omega (arith, set.1)))
-      go (Leaving key) busy _ stands = inl (on_key key stands.1.near)
-      go (Withdrawing key) busy _ stands = inl (on_key key stands.near)
-      go (Searching call rows poll) busy all stands =
-          inr (
-            (retired_at desk poll).slot,
-            all,
-            refl,
-            λ word. refl,
-            ((core.knows id (Writer desk) there).retired poll (retired_at desk poll)
-                (at_get desk.retired poll stands.1)).0,
-          )
-      go (Putting call rows slot departed index) busy _ stands =
-          on_test (λ (o : Operation). OnPlain shape o ⊎ Polls shape announcers heard o) (nat_le index (2 * length rows))
-          (λ low.
-          let few : index ≤ 2 * length rows = leb-true index (2 * length rows) low in
-          let short = stands.wants.row_set.1 in
-          inl (on_content slot index stands.inside (omega arith)))
-          (λ _. inl (on_key (key_of call) stands.wants.near))
+  going_on : (announcers : ℕ) (heard : List ℕ) (place : Place) → if_not_busy place ≡ None
+      → PollsHeard announcers desk heard place → StandsAt place
+      → OnPlain shape (going shape desk place) ⊎ Polls shape announcers heard (going shape desk place)
+  going_on announcers heard Idle idle _ stands = absurd (no_some (Some refuse.NotBusy) refuse.NotBusy refl idle)
+  going_on announcers heard (Reading call slot got) busy _ reads =
+      let set = read_set shape words roles log core (key_of call) slot got reads in
+      let few = reads.more in
+      inl
+      (on_content slot (length got)
+      (named_inside shape words roles log core (key_of call) slot reads.near reads.names)
+      (omega (arith, set.1)))
+  going_on announcers heard (Leaving key) busy _ stands = inl (on_key key stands.1.near)
+  going_on announcers heard (Withdrawing key) busy _ stands = inl (on_key key stands.near)
+  going_on announcers heard (Searching call rows poll) busy all stands =
+      inr (
+        (retired_at desk poll).slot,
+        all,
+        refl,
+        λ word. refl,
+        ((core.knows id (Writer desk) there).retired poll (retired_at desk poll)
+            (at_get desk.retired poll stands.1)).0,
+      )
+  going_on announcers heard (Putting call rows slot departed index) busy _ stands =
+      on_test (λ (o : Operation). OnPlain shape o ⊎ Polls shape announcers heard o) (nat_le index (2 * length rows))
+      (λ low.
+      let few : index ≤ 2 * length rows = leb-true index (2 * length rows) low in
+      let short = stands.wants.row_set.1 in
+      inl (on_content slot index stands.inside (omega arith)))
+      (λ _. inl (on_key (key_of call) stands.wants.near))
 
 pub goes_so : (shape : Shape) (slots id : ℕ) (me : Me (Unit {0}) View) (desk : Desk) → me.0.role ≡ Writer desk
     → if_not_busy desk.place ≡ None → PollsHeard me.0.announcers desk me.0.heard desk.place
@@ -430,7 +363,7 @@ goes_so shape slots id me desk is busy heard in_order =
     let then : ℕ → View → Type 0
     = λ found next. (other : Desk) → view.role ≡ Writer other → Went other found view next in
     lifts shape id view operation tells notes slots me.1 then view.pasts
-    (subst (λ r. CanStep shape id r operation tells) (sym is) (goes shape id desk busy))
+    (rw is (goes shape id desk busy))
     (goes_marked role_of marks_of shape id view view.pasts desk is busy in_order) (knows_pasts shape id view)
     (λ state kept at step.
     let there = at_map role_of state.views id view at ∙ ap some is in
@@ -442,12 +375,13 @@ goes_so shape slots id me desk is busy heard in_order =
     (λ (polls : Polls shape view.announcers view.heard operation). sees_alone shape id view operation tells notes then
     polls.0 (ap is_writer is) polls.1 polls.2 polls.3 (λ _ _ _. polls.4) lent_stays state kept at step)
     (going_on shape kept.counted (map role_of state.views) kept.log kept.core id desk there view.announcers view.heard
-    busy heard))
+    desk.place busy heard (kept.core.knows id (Writer desk) there).place))
     (λ state kept at step marked.
     let found : ℕ = get_or kept.counted (target_of operation) 0 in
     let outcome = went shape desk desk.place found in
     let there : get_elem? (map role_of state.views) id ≡ some (Writer desk)
     = at_map role_of state.views id view at ∙ ap some is in
+    let stands = (kept.core.knows id (Writer desk) there).place in
     let own = rw is at (kept.marked.each id view at) in
     let size = writer_shape shape kept.log view desk is (kept.fits id view at) in
     let entries : step.entries ≡ ending c outcome.1 = step.told.1 ∙ ending_there desk.place outcome.1 busy in
@@ -455,16 +389,14 @@ goes_so shape slots id me desk is busy heard in_order =
     = went_quiet shape view.marks view.pasts desk desk.place found step.after (kept.log ++ step.entries) marked.now
     marked.news marked.told in
     leads_on is kept at step marked no_news c outcome step.told.0 entries
-    (entries_there shape kept.counted (map role_of state.views) kept.log kept.core id desk there busy found)
+    (entries_there shape kept.counted (map role_of state.views) kept.log kept.core id desk there desk.place busy stands
+    found)
     (λ _ key slot after. rw is
     (went_names shape view.marks view.pasts desk desk.place found step.after (kept.log ++ step.entries) marked.now
     marked.news view.heard marked.told key slot after))
-    (λ counts without. (
-      go_short shape kept.counted (map role_of state.views) kept.log kept.core id desk there counts without,
-      go_polled shape view.marks view.pasts
-          desk found step.after (kept.log ++ step.entries) marked.now marked.news state.views desk.place own.sweep
-          marked.told (counts, without),
-    ))
+    (λ counts. go_short shape kept.counted (map role_of state.views) kept.log kept.core id desk there view.marks
+    view.pasts step.after (kept.log ++ step.entries) marked.now marked.news state.views counts desk.place stands
+    own.sweep marked.told)
     (λ other. Went other found view) (λ leads.
     let next = learned view step.after (kept.log ++ step.entries) step.entries marked.now marked.news in
     record {
@@ -475,7 +407,7 @@ goes_so shape slots id me desk is busy heard in_order =
           (entries ∙ ap (λ (s : Shape). ending c (went s desk desk.place found).1) (sym size));
       finds =
           rw size (finds_so shape kept.counted (map role_of state.views) kept.log kept.core id desk there view.marks
-          own.names);
+          own.names desk.place stands);
       notes = notes_so shape state kept view.marks.polls marked.now.polls marked.noted;
       marks = rw (size, sym no_news) marked.told;
       heard = ap (λ r. heard_after r view.heard) is;
@@ -497,18 +429,14 @@ put_leads : (desk : Desk) (call : WriterCall) (rows : List Row) (slot departed i
     → Put desk old new
 put_leads desk call rows slot departed index found old new is low went_so =
     let after : Desk × Step = (moved_to desk (Putting call rows slot departed (index + 1)), Going) in
-    let outcome : went old.shape desk desk.place found ≡ after = ap (λ (p : Place). went old.shape desk p found) is
-    ∙ ap (λ (b : Bool). cond {A = Desk × Step} b after (swapped desk found, ended reply.Done))
-    (le-leb index (2 * length rows) low) in
+    let outcome : went old.shape desk desk.place found ≡ after = rw (is, le-leb index (2 * length rows) low) in
     let next : next_put desk ≡ after.0 = ap (λ (p : Place). moved_to desk (put_place p)) is in
     let leads = went_so.leads in record {
       role = leads.role ∙ ap (λ (o : Desk × Step). Writer o.0) outcome ∙ sym (ap Writer next);
       advances = rw (ap (λ (o : Desk × Step). o.1) outcome) at leads.advances;
       room = subst (Room old.shape) (ap (λ (o : Desk × Step). o.0) outcome ∙ sym next) leads.room;
       numbers = rw outcome at leads.numbers;
-      marks = (rw (le-leb index (2 * length rows) low) at
-          (subst (λ (p : Place). went_marks old.shape old.marks old.pasts desk p found new.role new.seen
-          new.marks []) is went_so.marks)).0;
+      marks = (rw (is, le-leb index (2 * length rows) low) at went_so.marks).0;
       heard = went_so.heard;
     }
 
@@ -521,16 +449,11 @@ pub puts_so : (shape : Shape) (slots id : ℕ) (me : Me (Unit {0}) View) (desk :
 puts_so shape slots id me desk call rows slot departed index is place_is low =
     let at = moved_to desk (Putting call rows slot departed index) in
     let word : ℕ = get_or (encode rows) index 0 in
-    let operation =
-    ap
-    (λ (b : Bool). cond {A = Operation} b (Store (content shape slot index) word)
-    (Swap (key_of call) (naming slot departed)))
-    (le-leb index (2 * length rows) low) in
     let at_is : me.0.role ≡ Writer at = is ∙ (λ j. Writer (record desk { place = place_is j })) in
     let told : ℕ → Me (Unit {0}) View → Type 0
     = λ found after. (other : Desk) → me.0.role ≡ Writer other → Went other found me.0 after.0 in
     let allows
-    = rw operation at (goes_so shape slots id me at at_is refl tt tt) in
+    = rw (le-leb index (2 * length rows) low) at (goes_so shape slots id me at at_is refl tt tt) in
     tells_also (Kept shape) slots id me (content shape slot index) (λ _. word) told
     (λ _ after. (other : Desk) → me.0.role ≡ Writer other → Put other me.0 after.0)
     (λ found after so other also. put_leads other call rows slot departed index found me.0 after.0

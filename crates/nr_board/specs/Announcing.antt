@@ -11,9 +11,9 @@ use Rattle.nr_core.specs.Sums.{total}
 use Rattle.nr_core.specs.States.{retired_at}
 use Rattle.nr_core.specs.declared.roles.Desk.{Desk}
 use Rattle.nr_core.specs.declared.places.Place.{Place}
-use Rattle.nr_core.specs.declared.places.Place.TheVariants.{Idle, Leaving, Putting, Reading, Searching, Withdrawing}
+use Rattle.nr_core.specs.declared.places.Place.TheVariants.{Putting, Searching}
 use Rattle.nr_core.specs.declared.roles.Role.{Role}
-use Rattle.nr_core.specs.declared.roles.Role.TheVariants.{Note, Reader, Writer}
+use Rattle.nr_core.specs.declared.roles.Role.TheVariants.{Writer}
 use Rattle.nr_core.specs.Roles.{holds, is_by}
 use Rattle.nr_board.specs.Views.{View}
 
@@ -64,27 +64,18 @@ pub record Announces (shape : Shape) (announcers : ℕ) (words : List ℕ) (view
 
 -- what was heard of a slot is forgotten where a call puts a set into it
 abbrev pub heard_at : Place → List ℕ → List ℕ
-heard_at Idle heard = heard
-heard_at (Reading call named got) heard = heard
-heard_at (Leaving key) heard = heard
-heard_at (Withdrawing key) heard = heard
-heard_at (Searching call rows poll) heard = heard
 heard_at (Putting call rows mine departed index) heard = slice_set heard mine 0
+heard_at other heard = heard
 
 -- by a step of that caller's
 abbrev pub heard_after : Role → List ℕ → List ℕ
 heard_after (Writer desk) heard = heard_at desk.place heard
-heard_after (Reader reader grip) heard = heard
-heard_after Note heard = heard
+heard_after other heard = heard
 
 -- a poll is of a slot of which all readers that have a word were heard
 abbrev pub PollsHeard : ℕ → Desk → List ℕ → Place → Type 0
-PollsHeard announcers desk heard Idle = Unit {0}
-PollsHeard announcers desk heard (Reading call named got) = Unit {0}
-PollsHeard announcers desk heard (Leaving key) = Unit {0}
-PollsHeard announcers desk heard (Withdrawing key) = Unit {0}
 PollsHeard announcers desk heard (Searching call rows poll) = announcers ≤ slice_index heard (retired_at desk poll).slot
-PollsHeard announcers desk heard (Putting call rows mine departed index) = Unit {0}
+PollsHeard announcers desk heard other = Unit {0}
 
 -- what the writer has heard is so
 pub record Hears (views : List View) (writer : View) : Type 0 where

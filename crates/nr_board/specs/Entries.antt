@@ -1,7 +1,7 @@
 -- Whose the entries of a history are, and how many acts of a reader they tell.
 use Rattle.std.specs.Prelude.{◌≡◌, ℕ, ◌<◌, ◌≤◌, ◌⊎◌, Bool, true, false, List, [], ◌∷◌, Option, Some, None}
 use Rattle.nr_model.specs.declared.calls.Call.{Call}
-use Rattle.nr_model.specs.declared.calls.Call.TheVariants.{Find, Ask, Fill, Update, Replace, Evict, Cancel}
+use Rattle.nr_model.specs.declared.calls.Call.TheVariants.{Ask, Find}
 use Rattle.nr_model.specs.declared.calls.Reply.{Reply}
 use Rattle.nr_model.specs.declared.calls.Reply.TheVariants as reply
 use Rattle.nr_model.specs.Histories.{Entry}
@@ -14,11 +14,7 @@ use Rattle.nr_core.specs.Sums.{total}
 abbrev pub is_reading : Call → Bool
 is_reading (Find key) = true
 is_reading (Ask key) = true
-is_reading (Fill key number rows) = false
-is_reading (Update key batch) = false
-is_reading (Replace key rows) = false
-is_reading (Evict key) = false
-is_reading (Cancel key) = false
+is_reading other = false
 
 -- the entry is of a key of the map, and the writer's, which brings no set but a row set of the map, or a find or a
 -- request of one of the readers

@@ -1,7 +1,8 @@
-use Rattle.std.proofs.Common.{ap, arith, suc, sym, ℕ, ◌+◌, ◌≡◌, ◌<◌}
+use Rattle.std.proofs.Common.{ap, arith, suc, ℕ, ◌+◌, ◌≡◌, ◌<◌}
 use Rattle.nr_board.proofs.BoardPlaces.{own_shape, said_at, said_in, same_id, stands}
-use Rattle.nr_board.proofs.WordSeats.{said_announces, said_rests, said_word}
-use Rattle.nr_board.proofs.WordSteps.{holds_by_word, says_so}
+use Rattle.nr_board.proofs.ReaderSeats.{said_announces, said_word}
+use Rattle.nr_board.proofs.Tokens.{seat_rests}
+use Rattle.nr_board.proofs.WordSteps.{says_so}
 use Rattle.nr_board.specs.Callers.{Table}
 use Rattle.nr_board.proofs.board.Board.announce.Goals as goal
 
@@ -21,7 +22,7 @@ swap-requires c =
       rw (said_at board c.args.own.index is)
           (says_so shared.key.shape n seat.id c.args.own.index says seat.me c.requires.word
           (own_shape board c.requires.own)
-          (holds_by_word c.args.self.now.shape shared.key.shape seat.me.0 (sym board.key_is) c.requires.free)),
+          (rw board.key_is c.requires.free)),
     )
 
 pub returns : goal.returns
@@ -36,6 +37,6 @@ returns c =
     record {
       says = said_announces map before after same c.args.slot says c.requires.own next told;
       word = said_word map before after same c.args.own.index says c.requires.word told;
-      rests = said_rests map before after same says told;
+      rests = seat_rests before after same told.waits;
       marks = told.marks;
     }

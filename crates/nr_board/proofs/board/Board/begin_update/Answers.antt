@@ -1,12 +1,21 @@
-use Rattle.std.proofs.Common.{ap, sym, ◌∙◌, ◌≡◌, Err}
+use Rattle.std.proofs.Common.{ap, sym, ◌∙◌, ◌≡◌, Err, List}
 use Rattle.nr_model.specs.Batches.{applied}
 use Rattle.nr_model.specs.declared.batches.ApplyFault.TheVariants as fault
 use Rattle.nr_model.specs.declared.calls.Reply.TheVariants as reply
 use Rattle.nr_core.specs.Slots.{bound_of}
 use Rattle.nr_board.proofs.Looks.{has_looked, slot_so, update_dropped, update_reads}
-use Rattle.nr_board.proofs.SetRooms.{reads_set}
 use Rattle.nr_board.proofs.WriterCalls.{about_to_read, has_read, has_refused, look_ends}
 use Rattle.nr_board.proofs.board.Board.begin_update.Goals as goal
+use Rattle.nr_model.specs.declared.rows.Row.{Row}
+use Rattle.nr_core.specs.declared.calls.WriterCall.{WriterCall}
+use Rattle.nr_board.specs.Callers.{Table}
+use Rattle.nr_board.specs.NamedRows.{ReadsAll}
+use Rattle.nr_board.specs.WriterSeats.{MapSeat}
+
+-- a room that is a set: the rows that it shows are its value
+reads_set : {table : Table} {call : WriterCall} {before after : MapSeat} {rows : List Row}
+    → ((set : List Row) × (rows ≡ set) × ReadsAll table call set before after) → ReadsAll table call rows before after
+reads_set (set, same, reads) = rw same reads
 
 pub returns-then-not-found : goal.returns-then-not-found
 returns-then-not-found g c =

@@ -1,7 +1,8 @@
-use Rattle.std.proofs.Common.{ap, arith, sym, ℕ, ◌<◌}
+use Rattle.std.proofs.Common.{ap, arith, ℕ, ◌<◌}
 use Rattle.nr_board.proofs.BoardPlaces.{own_shape, said_at, said_in, same_id, stands}
-use Rattle.nr_board.proofs.WordSeats.{said_nothing, said_rests, said_word}
-use Rattle.nr_board.proofs.WordSteps.{holds_by_word, says_so}
+use Rattle.nr_board.proofs.ReaderSeats.{said_nothing, said_word}
+use Rattle.nr_board.proofs.Tokens.{seat_rests}
+use Rattle.nr_board.proofs.WordSteps.{says_so}
 use Rattle.nr_board.specs.Callers.{Table}
 use Rattle.nr_board.proofs.board.Board.clear.Goals as goal
 
@@ -20,7 +21,7 @@ store-requires c =
       rw (said_at board c.args.own.index is)
           (says_so shared.key.shape n seat.id c.args.own.index 0 seat.me c.requires.word
           (own_shape board c.requires.own)
-          (holds_by_word c.args.self.now.shape shared.key.shape seat.me.0 (sym board.key_is) c.requires.free)),
+          (rw board.key_is c.requires.free)),
     )
 
 pub returns : goal.returns
@@ -33,6 +34,6 @@ returns c =
     record {
       reader = said_nothing map before after same c.requires.own told;
       word = said_word map before after same c.args.own.index 0 c.requires.word told;
-      rests = said_rests map before after same 0 told;
+      rests = seat_rests before after same told.waits;
       marks = told.marks;
     }

@@ -1,9 +1,9 @@
 use Rattle.std.proofs.Common.{ap, arith, sym, ◌∙◌, ◌<◌}
 use Rattle.nr_core.specs.declared.shape.Shape.{Shape}
 use Rattle.nr_board.proofs.BoardPlaces.{key_in, stands}
-use Rattle.nr_board.proofs.WordSeats.{confirmed_held, confirmed_marks, confirmed_not_yet, confirmed_other}
-use Rattle.nr_board.proofs.WordSeats.{confirmed_says, confirmed_word, looked_announces, looked_hole, looked_named}
-use Rattle.nr_board.proofs.ReaderSeats.{names_empty}
+use Rattle.nr_board.proofs.ReaderSeats.{confirmed_held, confirmed_marks, confirmed_not_yet, confirmed_other}
+use Rattle.nr_board.proofs.ReaderSeats.{confirmed_says, confirmed_word, looked_announces, names_empty}
+use Rattle.nr_board.proofs.Tokens.{seat_grows}
 use Rattle.nr_board.proofs.WordSteps.{confirms_so}
 use Rattle.nr_board.specs.Callers.{Table}
 use Rattle.nr_board.proofs.board.Board.confirm.Goals as goal
@@ -38,12 +38,12 @@ returns c =
           let looked
           = confirmed_other map before after same slot key found at told (names_empty slot found empty) in (
             looked_announces map before after same slot key found at looked,
-            looked_hole map before after same key found looked empty,
+            seat_grows before after _ same (looked.hole empty),
           );
       other = λ no full.
           let looked = confirmed_other map before after same slot key found at told no in (
             looked_announces map before after same slot key found at looked,
-            looked_named map before after same key found looked full,
+            seat_grows before after _ same (looked.named full),
           );
       says = confirmed_says map before after same slot key found at told;
       word = confirmed_word map before after same slot key found at told c.args.own.index c.requires.word;

@@ -1,5 +1,6 @@
 use Rattle.nr_board.proofs.BoardPlaces.{key_in, key_near, own_shape, same_id, stands}
-use Rattle.nr_board.proofs.WordSeats.{looked_hole, looked_idle, looked_named}
+use Rattle.nr_board.proofs.ReaderSeats.{looked_idle}
+use Rattle.nr_board.proofs.Tokens.{seat_grows}
 use Rattle.nr_board.proofs.WordSteps.{looks_up_so}
 use Rattle.nr_board.proofs.board.Board.look_at_key.Goals as goal
 
@@ -25,7 +26,7 @@ returns c =
     let found = c.load.result in
     record {
       reader = looked_idle c.args.self.now before after same key found c.requires.reader told;
-      hole = looked_hole c.args.self.now before after same key found told;
-      named = looked_named c.args.self.now before after same key found told;
+      hole = λ empty. seat_grows before after _ same (told.hole empty);
+      named = λ full. seat_grows before after _ same (told.named full);
       marks = told.marks;
     }

@@ -1,12 +1,5 @@
-use Rattle.std.proofs.Common.{Bool, ap, arith, cond, get_or, length, refl, subst, ℕ, ◌*◌, ◌+◌, ◌≡◌}
+use Rattle.std.proofs.Common.{ap, arith, length, refl, subst, ℕ, ◌*◌, ◌+◌}
 use Rattle.std.proofs.lemmas.Bool.{lt-leb}
-use Rattle.nr_words.specs.SetWords.{encode}
-use Rattle.nr_core.specs.Operations.{going}
-use Rattle.nr_core.specs.declared.operation.Operation.{Operation}
-use Rattle.nr_core.specs.declared.operation.Operation.TheVariants.{Store, Swap}
-use Rattle.nr_words.specs.KeyWords.{naming}
-use Rattle.nr_core.specs.Slots.{content}
-use Rattle.nr_core.specs.States.{key_of}
 use Rattle.nr_core.specs.declared.places.Place.TheVariants.{Putting}
 use Rattle.nr_board.proofs.WriterSeats.{desk_at, goes_on}
 use Rattle.nr_board.proofs.BoardPlaces.{key_in, same_id, stands}
@@ -33,16 +26,9 @@ swap-requires c =
     let slot : ℕ = c.args.slot in
     let last : ℕ = 2 * length rows + 1 in
     let at = record publishing.desk { place = Putting call rows slot c.args.departed last } in
-    let word : ℕ = naming slot c.args.departed in
-    let operation : going shared.key.shape at at.place ≡ Swap (key_of call)
-    word =
-    ap
-    (λ (b : Bool). cond {A = Operation} b
-    (Store (content shared.key.shape slot last) (get_or (encode rows) last 0))
-    (Swap (key_of call) word)) (lt-leb last (2 * length rows) (omega arith)) in
     let n : ℕ = shared.table_id.slots in
     let allows
-    = rw operation at
+    = rw (lt-leb last (2 * length rows) (omega arith)) at
     (goes_so shared.key.shape n seat.id seat.me at
     (desk_at seat.me.0.role publishing.desk (Putting call rows slot c.args.departed last) publishing.writes.role
     publishing.place)
