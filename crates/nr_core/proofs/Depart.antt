@@ -4,7 +4,7 @@ use Rattle.nr_core.proofs.Sums.{only-other, only-same, total-set, term_le}
 use Rattle.nr_core.specs.Roles.{holds}
 use Rattle.nr_core.specs.declared.roles.Grip.TheVariants.{Nothing, On}
 use Rattle.nr_core.specs.declared.roles.Role.TheVariants.{Reader}
-use Rattle.nr_core.proofs.Recount.{recounts}
+use Rattle.nr_core.proofs.OnKey.{recounts}
 use Rattle.nr_core.proofs.Stepping.{reader_quiet}
 use Rattle.nr_core.specs.StepLaws.{DepartLaw}
 

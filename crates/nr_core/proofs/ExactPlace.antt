@@ -12,7 +12,7 @@ use Rattle.nr_core.specs.PollNotes.{Missed, Noted}
 use Rattle.nr_core.specs.Pasts.{AllKnown, Compared, Current, Refreshed}
 use Rattle.nr_core.specs.Exact.{pins}
 use Rattle.nr_core.specs.MarkLaws.{DoneByMarks, NoSlotByMarks}
-use Rattle.nr_core.proofs.ByHistory.{strays_by_history}
+use Rattle.nr_core.proofs.Tidy.{strays_by_history}
 use Rattle.nr_core.proofs.Strays.{Still, all_strays, one_not_stray, strays_most}
 
 -- the polls of a call, from its look on

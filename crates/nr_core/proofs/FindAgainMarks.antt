@@ -19,7 +19,7 @@ use Rattle.nr_core.specs.Puts.{put_number}
 use Rattle.nr_core.specs.Marks.{Marks, Past, with_look}
 use Rattle.nr_core.specs.Marked.{CanMark, Remarked}
 use Rattle.nr_core.specs.MarkSteps.{ComparesPuts, FindsAgainMarks, found_again}
-use Rattle.nr_core.proofs.DeskMarks.{desk_of}
+use Rattle.nr_core.proofs.LookMarks.{desk_of}
 use Rattle.nr_core.proofs.ReaderMarks.{reader_step, contents_loaded}
 use Rattle.nr_core.proofs.LearnMarks.{held_lives}
 use Rattle.nr_core.proofs.PutNumbers.{QuietEnd, none_end, one_ends}

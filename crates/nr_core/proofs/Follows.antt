@@ -13,10 +13,9 @@ use Rattle.nr_core.proofs.Frames.{stands_at}
 use Rattle.nr_core.proofs.Go.{own_ending_at}
 use Rattle.nr_core.proofs.Guards.{guard, no_some, at_key, at_reader, at_reader_key}
 use Rattle.nr_core.proofs.Histories.{of-append}
-use Rattle.nr_core.proofs.OffKeys.{none_of}
-use Rattle.nr_core.proofs.Reach.{hold_room, place_room}
+use Rattle.nr_core.proofs.OnKey.{none_of}
+use Rattle.nr_core.proofs.Reach.{hold_room, place_room, holder}
 use Rattle.nr_core.proofs.Settle.{own_ending}
-use Rattle.nr_core.proofs.Stands.{holder}
 use Rattle.nr_core.proofs.StateRoles.{IsCoreState}
 use Rattle.nr_core.proofs.WordPlaces.{content_apart, content_inside, departures_inside, same_content}
 use Rattle.nr_core.specs.Laws.{EndsWithout, Follows, IsJustified, caller_of_event}

@@ -8,12 +8,11 @@ use Rattle.nr_model.specs.Histories.{Entry, entries_of}
 use Rattle.nr_words.specs.SetWords.{encode}
 use Rattle.nr_core.proofs.Choices.{by_cases}
 use Rattle.nr_core.proofs.Guards.{no_some}
-use Rattle.nr_core.proofs.OffKeys.{none_of}
+use Rattle.nr_core.proofs.OnKey.{none_of}
 use Rattle.nr_core.proofs.Poll.{polls}
-use Rattle.nr_core.proofs.Put.{puts}
-use Rattle.nr_core.proofs.Swap.{publishes, unpublishes, withdraws}
+use Rattle.nr_core.proofs.Swap.{puts, publishes, unpublishes, withdraws}
 use Rattle.nr_core.proofs.Settle.{own_ending, Makes}
-use Rattle.nr_core.proofs.WriterRead.{reads_on}
+use Rattle.nr_core.proofs.Look.{reads_on}
 use Rattle.nr_core.specs.Core.{Core}
 use Rattle.nr_core.specs.Operations.{going, target_of, operated}
 use Rattle.nr_core.specs.declared.operation.Operation.{Operation}

@@ -13,7 +13,7 @@ use Rattle.nr_core.specs.Slots.{name_number}
 use Rattle.nr_core.specs.Story.{entry, map_after}
 use Rattle.nr_core.specs.declared.roles.Grip.TheVariants.{Nothing, On}
 use Rattle.nr_core.specs.declared.roles.Role.TheVariants.{Reader}
-use Rattle.nr_core.proofs.Recount.{recounts}
+use Rattle.nr_core.proofs.OnKey.{recounts}
 use Rattle.nr_core.proofs.Stepping.{reader_tells, stays_quiet}
 use Rattle.nr_core.proofs.Choices.{either}
 use Rattle.nr_core.proofs.Frames.{entry_more}

@@ -29,7 +29,7 @@ use Rattle.nr_core.specs.declared.places.Place.TheVariants.{Idle, Putting, Readi
 use Rattle.nr_core.specs.declared.roles.Desk.{Desk}
 use Rattle.nr_core.specs.declared.shape.Shape.{Shape}
 use Rattle.nr_core.proofs.Guards.{at_reader_key}
-use Rattle.nr_core.proofs.Outcomes.{OfOutcomes, ShownBy, looked_has, read_has}
+use Rattle.nr_core.proofs.Without.{OfOutcomes, ShownBy, looked_has, read_has}
 use Rattle.nr_model.specs.declared.calls.Call.TheVariants as model
 use Rattle.nr_core.specs.declared.calls.WReply.TheVariants as writer
 

@@ -35,10 +35,10 @@ use Rattle.nr_core.specs.MarkSteps.{ReaderLearns, WriterLearns}
 use Rattle.nr_core.proofs.ListPlaces.{at_maps, no_places, some_is}
 use Rattle.nr_core.proofs.Holders.{since_itself, since_now}
 use Rattle.nr_core.proofs.ReaderMarks.{reader_step, contents_loaded}
-use Rattle.nr_core.proofs.Stands.{taken_nobody}
+use Rattle.nr_core.proofs.Reach.{taken_nobody}
 use Rattle.nr_core.proofs.SwapMarks.{grips_it}
 use Rattle.nr_core.proofs.Tidy.{listed}
-use Rattle.nr_core.proofs.DeskMarks.{desk_of, load_stays, writer_step}
+use Rattle.nr_core.proofs.LookMarks.{desk_of, load_stays, writer_step}
 use Rattle.nr_core.proofs.PutNumbers.{none_end}
 
 below_some : (f : ℕ → ℕ) (n : ℕ) → 0 < below f n → (k : ℕ) × (k < n) × (0 < f k)

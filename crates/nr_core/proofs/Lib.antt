@@ -23,7 +23,6 @@ pub mod Settle
 pub mod Guards
 pub mod Sets
 pub mod ReadThrough
-mod Outcomes
 pub mod Without
 pub mod Counting
 pub mod Numbers
@@ -49,29 +48,18 @@ pub mod ExactPlace
 mod Walks
 mod Shapes
 mod OnKey
-mod OffKeys
 mod Stepping
-mod Recount
 mod Swap
-mod Put
-mod WriterRead
 mod Shown
 mod StateRoles
 mod ReaderEvents
 mod Events
 mod Sweeps
-mod Stands
 mod Follows
-mod Runs
-mod Justified
 mod Schedules
 mod MarksSince
-mod DeskMarks
 mod SwapMarks
 mod Holders
-mod PollMarks
-mod HowOften
 mod Tidy
 mod Strays
-mod ByHistory
 mod InTime

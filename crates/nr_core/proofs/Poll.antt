@@ -11,7 +11,7 @@ use Rattle.nr_model.specs.declared.rows.Row.{Row}
 use Rattle.nr_words.specs.KeyWords.{same_count}
 use Rattle.nr_core.proofs.Choices.{on_test}
 use Rattle.nr_core.proofs.Learn.{nothing}
-use Rattle.nr_core.proofs.OffKeys.{none_of}
+use Rattle.nr_core.proofs.OnKey.{none_of}
 use Rattle.nr_core.specs.StepLaws.{GiveUpLaw, TryLaw}
 use Rattle.nr_core.proofs.Settle.{goes_on, moves, Comes, Makes}
 use Rattle.nr_core.proofs.Sums.{at_remove, got_at, only-le, total-le, total-remove}

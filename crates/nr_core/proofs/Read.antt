@@ -4,7 +4,7 @@ use Rattle.nr_core.specs.Slots.{content}
 use Rattle.nr_core.specs.declared.roles.Grip.TheVariants.{On}
 use Rattle.nr_core.specs.declared.roles.Role.TheVariants.{Reader}
 use Rattle.nr_core.proofs.Stepping.{reader_quiet}
-use Rattle.nr_core.proofs.OffKeys.{load_step}
+use Rattle.nr_core.proofs.OnKey.{load_step}
 use Rattle.nr_core.specs.StepLaws.{ReadLaw}
 
 pub reads : ReadLaw

@@ -15,7 +15,7 @@ use Rattle.nr_model.specs.declared.calls.Reply.{Reply}
 use Rattle.nr_model.specs.declared.rows.Row.{Row}
 use Rattle.nr_core.proofs.Choices.{on_test}
 use Rattle.nr_core.proofs.Frames.{unused-free, entry_more}
-use Rattle.nr_core.proofs.OffKeys.{none_of, load_step}
+use Rattle.nr_core.proofs.OnKey.{none_of, load_step}
 use Rattle.nr_core.proofs.Sums.{only-other, only-same}
 use Rattle.nr_core.specs.Core.{AtDesk, Core, Wants, AtPlace}
 use Rattle.nr_core.specs.Roles.{held, keeps, taken}

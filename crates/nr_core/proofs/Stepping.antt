@@ -14,7 +14,7 @@ use Rattle.nr_core.specs.declared.roles.Grip.{Grip}
 use Rattle.nr_core.specs.declared.roles.Role.{Role}
 use Rattle.nr_core.specs.declared.roles.Role.TheVariants.{Reader, Writer}
 use Rattle.nr_core.specs.declared.shape.Shape.{Shape}
-use Rattle.nr_core.proofs.OffKeys.{none_of}
+use Rattle.nr_core.proofs.OnKey.{none_of}
 
 abbrev Tells : List ℕ → Operation → Telling → Role → List Entry → Type 0
 Tells words operation tells role entries = tells (get_or words (target_of operation) 0) role entries

@@ -17,7 +17,7 @@ use Rattle.nr_core.specs.Marks.{Marks, Past}
 use Rattle.nr_core.specs.PollNotes.{AllHeld}
 use Rattle.nr_core.specs.Pasts.{AllCurrent, Living}
 use Rattle.nr_core.specs.Exact.{Tidy, named_puts, pinned_put, pins, retired_puts}
-use Rattle.nr_core.proofs.HowOften.{count_is, how_often, stray_count, strays_count}
+use Rattle.nr_core.proofs.Tidy.{count_is, how_often, stray_count, strays_count}
 use Rattle.nr_core.proofs.ListPlaces.{at_maps, at_unmap}
 use Rattle.std.proofs.lemmas.List.{length-map}
 

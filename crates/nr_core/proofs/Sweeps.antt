@@ -40,7 +40,7 @@ use Rattle.nr_core.specs.declared.shape.Shape.{Shape}
 use Rattle.nr_core.proofs.Frames.{stands_at}
 use Rattle.nr_model.specs.declared.states.KeyState.{KeyState}
 use Rattle.nr_core.proofs.Guards.{at_reader, at_reader_key}
-use Rattle.nr_core.proofs.Outcomes.{OfOutcomes, ShownBy, looked_has, read_has}
+use Rattle.nr_core.proofs.Without.{OfOutcomes, ShownBy, looked_has, read_has}
 use Rattle.nr_core.specs.declared.places.Hold.TheVariants as hold
 
 -- 1 where the hold is of none of the slots
