@@ -1,5 +1,5 @@
--- What the writer reads: the look, the first step of each call, by which the call ends or goes on by the key's state, and
--- the words of the slot that its key names, of which the last decides its find or update.
+-- What the writer reads: the look, the first step of each call, by which the call ends or goes on by the key's state;
+-- and the words of the slot that its key names, of which the last decides its find or update.
 use Rattle.std.proofs.Common.{Bool, false, true, List, [], ap, arith, eq-eqb, get_or, nat_eq, ne_eqb, refl, suc, sym, ℕ}
 use Rattle.std.proofs.Common.{◌%◌, ◌<◌, ◌∙◌, ◌≡◌, length, take, ◌*◌, ◌++◌, ◌+◌, ◌∷◌, ◌≢◌, ◌≤◌}
 use Rattle.std.proofs.lemmas.Bool.{ltb-true, eqb-false, eqb-true}

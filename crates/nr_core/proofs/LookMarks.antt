@@ -1,5 +1,5 @@
--- What a writer's step leaves of its lists: where they go along with its step, all marks do. So they do at the steps that
--- leave the words, its looks and its reads: a call that ends with no slot there has none retired either.
+-- What a writer's step leaves of its lists: where they go along with its step, all marks do. So they do at the steps
+-- that leave the words, its looks and its reads: a call that ends with no slot there has none retired either.
 use Rattle.std.proofs.Common.{[], inl, Bool, List, ap, append-nil, arith, false, get_or, length, map, refl, subst, sym}
 use Rattle.std.proofs.Common.{ℕ, ◌++◌, ◌<◌, ◌∙◌, ◌∷◌, ◌≡◌, set, suc, ◌≤◌, ◌*◌}
 use lib.ListN.{get_elem?}

@@ -1,8 +1,8 @@
 -- The laws over all lists of events: what stands between any two steps, and the bound on slots.
 -- Each kind of step keeps the core state (Arrive, Ask, Read, Depart, Look, Go), so each event does (ReaderEvents,
 -- Events), from the opening on (Opening).
--- Reach and Follows read the law off a core state; Sweeps keeps what the polls of a call tell, and a call that ends with
--- no slot is justified by both (no_slot_is_justified).
+-- Reach and Follows read the law off a core state; Sweeps keeps what the polls of a call tell, and both justify a call
+-- that ends with no slot (no_slot_is_justified).
 use Rattle.std.proofs.Common.{List, [], ap, arith, length, refl, subst, sym, ◌+◌, ◌<◌, ◌∙◌, ◌∷◌, ◌≡◌, ◌≤◌, cond, get_or}
 use Rattle.std.proofs.Common.{map, ℕ, ◌*◌, ◌++◌, ◌-◌}
 use Rattle.std.proofs.lemmas.List.{length-map, take_all}

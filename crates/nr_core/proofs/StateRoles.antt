@@ -32,7 +32,6 @@ use Rattle.nr_core.proofs.Holders.{same_grip}
 use Rattle.nr_core.specs.declared.places.Hold.TheVariants as hold
 use Rattle.nr_model.specs.declared.calls.Call.TheVariants as model
 use Rattle.nr_model.specs.declared.calls.Reply.TheVariants as reply
-use Rattle.nr_core.specs.declared.calls.WReply.TheVariants as writer
 
 abbrev pub erased : Grip → Hold
 erased Nothing = hold.Nothing

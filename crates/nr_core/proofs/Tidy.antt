@@ -1,7 +1,7 @@
 -- In every state the writer's lists are as they should be: put numbers of named and retired slots differ, and the lists
 -- agree with the history, so the put numbers that they give to the filled keys are the history's.
 use Rattle.std.proofs.Common.{List, [], ap, arith, false, get_or, length, map, refl, subst, suc, sym, true, zero, ℕ}
-use Rattle.std.proofs.Common.{⊎_elim, ◌<◌, ◌∙◌, ◌∷◌, ◌≡◌, ◌≤◌, ◌+◌, cond, nat_eq, Bool}
+use Rattle.std.proofs.Common.{⊎_elim, ◌<◌, ◌∙◌, ◌∷◌, ◌≡◌, ◌≤◌, ◌+◌, ◌-◌, cond, nat_eq, Bool}
 use lib.ListN.{get_elem?}
 use mathlib.Core.Logic.{dite}
 use mathlib.Core.Option.{some, some-injective, some-ne-none}
@@ -11,7 +11,7 @@ use Rattle.nr_model.specs.Maps.{is_filled_key, state_of}
 use Rattle.nr_model.specs.declared.states.KeyState.{KeyState}
 use Rattle.nr_core.proofs.Counting.{named_inside, retired_once, taken_are}
 use Rattle.nr_core.proofs.KeyWords.{is_named}
-use Rattle.nr_core.proofs.Sums.{only-is, only-le, only-same, some_term, term_le, below-first, below-same}
+use Rattle.nr_core.proofs.Sums.{only-is, only-le, only-other, only-same, some_term, term_le, below-first, below-same}
 use Rattle.nr_core.specs.Core.{Core, ShowsState}
 use Rattle.nr_core.specs.Slots.{name_number, named}
 use Rattle.nr_core.specs.Story.{map_after}
@@ -44,19 +44,25 @@ count_is [] number = refl
 count_is (x ∷ xs) number =
     omega (arith, count_is xs number, count_by-cons (λ other. nat_eq other number) x xs)
 
--- the strays, counted so
+-- the strays, counted so: 1 for a number that is none of the later ones' and no key's
 abbrev pub stray_count : List ℕ → List ℕ → ℕ
 stray_count keys [] = 0
-stray_count keys (q ∷ qs) = cond (nat_eq (how_often q qs + how_often q keys) 0) 1 0 + stray_count keys qs
+stray_count keys (q ∷ qs) = 1 - (how_often q qs + how_often q keys) + stray_count keys qs
 
 pub strays_count : (keys qs : List ℕ) → strays keys qs ≡ stray_count keys qs
 strays_count keys [] = refl
 strays_count keys (q ∷ qs) =
-    let t = strays_count keys qs in
-    let a = count_is qs q in
-    let b = count_is keys q in
-    let sum : count_of_put qs q + count_of_put keys q ≡ how_often q qs + how_often q keys = omega arith in
-    omega (arith, ap (λ (n : ℕ). cond {A = ℕ} (nat_eq n 0) 1 0) sum)
+    omega (
+      arith,
+      none (count_of_put qs q + count_of_put keys q),
+      strays_count keys qs,
+      count_is qs q,
+      count_is keys q,
+    )
+  where
+    none : (n : ℕ) → only 0 n ≡ 1 - n
+    none n =
+        dite (ℕ_discrete n 0) (λ z. omega (arith, ap (only 0) z)) (λ nz. omega (arith, only-other 0 n nz))
 
 -- In every state the writer's lists are as they should be: put numbers of named and retired slots differ, and the lists
 -- agree with the history.
@@ -284,8 +290,7 @@ named_are_filled_puts desk marks shape log lists number = named_often marks.puts
 strays_same : (keys keys' qs : List ℕ) → ((q : ℕ) → how_often q keys ≡ how_often q keys')
     → stray_count keys qs ≡ stray_count keys' qs
 strays_same keys keys' [] h = refl
-strays_same keys keys' (q ∷ qs) h = let t = strays_same keys keys' qs h in
-    let a = ap (λ (n : ℕ). cond {A = ℕ} (nat_eq (how_often q qs + n) 0) 1 0) (h q) in omega arith
+strays_same keys keys' (q ∷ qs) h = omega (arith, h q, strays_same keys keys' qs h)
 
 -- the strays by the history alone: pinned put numbers that no filled key has
 pub strays_by_history : (desk : Desk) (marks : Marks) (shape : Shape) (log : List Entry) (pinned : List ℕ)
