@@ -16,9 +16,8 @@ use Rattle.nr_core.specs.Story.{Story, beginning, story_of, tell, told, call_of,
 use Rattle.nr_core.specs.declared.calls.Refusal.{Refusal}
 use Rattle.nr_core.specs.declared.shape.Shape.{Shape}
 use Rattle.nr_core.proofs.Stepping.{core_after}
-use Rattle.nr_core.proofs.Go.{goes, own_ending_at}
+use Rattle.nr_core.proofs.WriterSteps.{goes, own_ending_at, looks}
 use Rattle.nr_core.proofs.Guards.{is_idle, at_key}
-use Rattle.nr_core.proofs.Look.{looks}
 use Rattle.nr_core.specs.Given.{IsGivenCall}
 use Rattle.nr_core.specs.Operations.{going, target_of}
 use Rattle.nr_core.specs.Writer.{looked, went}

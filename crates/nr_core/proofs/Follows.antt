@@ -10,7 +10,7 @@ use Rattle.nr_model.specs.declared.calls.Reply.{Reply}
 use Rattle.nr_model.specs.declared.states.KeyState.{KeyState}
 use Rattle.nr_core.proofs.Choices.{on_test}
 use Rattle.nr_core.proofs.Frames.{stands_at}
-use Rattle.nr_core.proofs.Go.{own_ending_at}
+use Rattle.nr_core.proofs.WriterSteps.{own_ending_at}
 use Rattle.nr_core.proofs.Guards.{guard, no_some, at_key, at_reader, at_reader_key}
 use Rattle.nr_core.proofs.Histories.{of-append}
 use Rattle.nr_core.proofs.OnKey.{none_of}

@@ -1,14 +1,8 @@
 -- For the crates above: the laws of the steps (`src/laws.rt` says each of them), and what they share, of sums,
 -- histories, key words, sets read through, calls that end with no slot, slots counted, keys numbered, where words lie,
 -- and what holds of reached states.
-pub mod Arrive
-pub mod Ask
-pub mod Read
-pub mod FindAgain
-pub mod HoldNamed
-pub mod Depart
-pub mod Look
-pub mod Go
+pub mod ReaderSteps
+pub mod WriterSteps
 pub mod Poll
 pub mod Learn
 pub mod Opening
@@ -21,7 +15,6 @@ pub mod KeyWords
 pub mod Frames
 pub mod Settle
 pub mod Guards
-pub mod Sets
 pub mod ReadThrough
 pub mod Without
 pub mod Counting
@@ -33,7 +26,6 @@ pub mod ListPlaces
 pub mod PutNumbers
 pub mod Knowing
 pub mod ReaderMarks
-pub mod HoldNamedMarks
 pub mod LookMarks
 pub mod Different
 pub mod ReapMarks
@@ -50,7 +42,6 @@ mod Shapes
 mod OnKey
 mod Stepping
 mod Swap
-mod Shown
 mod StateRoles
 mod ReaderEvents
 mod Events

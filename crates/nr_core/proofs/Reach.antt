@@ -9,7 +9,7 @@ use mathlib.Core.Logic.{dite, ∥∥₁_elim}
 use native.Mathlib.Decide.{dec_le}
 use Rattle.nr_model.specs.Histories.{Entry}
 use Rattle.nr_model.specs.Maps.{PartialMap, number_of}
-use Rattle.nr_core.proofs.Shown.{shown_is}
+use Rattle.nr_core.proofs.ReadThrough.{shown_is}
 use Rattle.nr_core.proofs.Numbers.{number_within}
 use Rattle.nr_core.proofs.Counting.{few_retired, fewer_retired, named_inside, names_it}
 use Rattle.nr_core.proofs.Events.{story_core}

@@ -15,16 +15,12 @@ use Rattle.nr_model.specs.declared.rows.Row.{Row}
 use Rattle.nr_words.proofs.SetWordLemmas.{length-row_words}
 use Rattle.nr_words.specs.KeyWords.{slot_of}
 use Rattle.nr_words.specs.SetWords.{encode}
-use Rattle.nr_core.proofs.Arrive.{arrives}
-use Rattle.nr_core.proofs.Ask.{asks}
+use Rattle.nr_core.proofs.ReaderSteps.{arrives, asks, departs, finds_again, reads}
 use Rattle.nr_core.proofs.Choices.{by_cases}
-use Rattle.nr_core.proofs.Depart.{departs}
-use Rattle.nr_core.proofs.FindAgain.{finds_again}
 use Rattle.nr_core.proofs.Guards.{guard, no_some, at_reader, at_reader_key}
 use Rattle.nr_core.proofs.Histories.{replies_so}
 use Rattle.nr_core.proofs.KeyWords.{names_none, names_one}
-use Rattle.nr_core.proofs.Read.{reads}
-use Rattle.nr_core.proofs.Shown.{shown_is}
+use Rattle.nr_core.proofs.ReadThrough.{shown_is}
 use Rattle.nr_core.proofs.StateRoles.{IsCoreState, erased, found_quiet, no_grip, Found, after_reader, found_now}
 use Rattle.nr_core.proofs.StateRoles.{one_other, same_rows, found_of, reader_of}
 use Rattle.nr_core.specs.Core.{Core}

@@ -1,8 +1,8 @@
 -- The exact place of a no-slot, from what the tokens say once every reader was gathered. The strays are the retired put
 -- numbers that are pinned (strays_are): all of them where a sweep found each retired slot held and no reader moved
 -- since (all_strays), fewer where a retired slot was taken (one_not_stray).
-use Rattle.std.proofs.Common.{List, [], ap, arith, get_or, inr, length, ◌-◌, refl, subst, suc, sym, zero, ℕ, ⊎_elim, ◌+◌}
-use Rattle.std.proofs.Common.{◌<◌, ◌∙◌, ◌∷◌, ◌≡◌, ◌≤◌}
+use Rattle.std.proofs.Common.{List, [], ap, arith, get_or, inr, length, ◌-◌, refl, subst, suc, sym, zero, ℕ, ⊎_elim}
+use Rattle.std.proofs.Common.{◌+◌, ◌<◌, ◌∙◌, ◌∷◌, ◌≡◌, ◌≤◌}
 use Rattle.std.specs.List.{cons_option}
 use Rattle.std.specs.Prelude.{None, Option, Some, option_map}
 use lib.ListN.{get_elem?}
