@@ -73,17 +73,16 @@ pub no_room_left : {shape : Shape} {words : List ℕ} {roles : List Role} {log :
     → reply_at (bound_of shape) (call_of call) (state_of (map_after shape log) (key_of call)) ≡ reply.Done
     → (polls : List Past) → AllHeld desk.retired polls → length polls ≤ shape.readers
     → NoRoom shape call desk.retired polls log
-no_room_left {shape = shape} {words = words} {roles = roles} {log = log} id {desk = desk} {call = call} core there free
-    full done polls held few = record {
-      done = cc (replies_so shape log (call_of call), key_same call);
-      slots = slots_are shape words roles log core id desk there full free;
-      apart = λ slot. dite (dec_le (retirements slot desk.retired) 1) (λ l. l)
-          (λ l.
-          let near = retired_inside shape words roles log core id desk there slot (omega arith) in
-          absurd (omega (arith, retired_once shape words roles log core id desk there slot near)));
-      held = held;
-      few = few;
-    }
+no_room_left {shape} {words} {roles} {log} id {desk} {call} core there free full done polls held few = record {
+  done = cc (replies_so shape log (call_of call), key_same call);
+  slots = slots_are shape words roles log core id desk there full free;
+  apart = λ slot. dite (dec_le (retirements slot desk.retired) 1) (λ l. l)
+      (λ l.
+      let near = retired_inside shape words roles log core id desk there slot (omega arith) in
+      absurd (omega (arith, retired_once shape words roles log core id desk there slot near)));
+  held = held;
+  few = few;
+}
 
 module _ {A : Type 0} {role : A → Role} {marks : A → Marks} where
   pub desk_of : {shape : Shape} {words : List ℕ} {callers : List A} {log : List Entry} (id : ℕ) {me : A} {desk : Desk}
@@ -102,9 +101,8 @@ module _ {A : Type 0} {role : A → Role} {marks : A → Marks} where
       → Desked role marks shape (operated words operation) callers (log ++ entries) desk' now
       → tells (get_or words (target_of operation) 0) after (log ++ entries) now news
       → Remarked role marks shape words callers log id operation me after entries tells
-  writer_step {shape = shape} {id = id} {me = me} {operation = operation} {words = words} {callers = callers}
-      {log = log} core m at {desk = desk} {desk' = desk'} was {entries = entries} is now news since
-      noted own told =
+  writer_step {shape} {id} {me} {operation} {tells} {words} {callers} {log} core m at {desk} {desk'} was {after}
+      {entries} is now news since noted own told =
       record {
         now = now;
         news = news;
@@ -129,8 +127,7 @@ module _ {A : Type 0} {role : A → Role} {marks : A → Marks} where
       → AllSince role marks callers polls → Sweeping role marks callers desk' polls desk'.place
       → Leaves shape words words' desk.place desk'.place
       → Desked role marks shape words' callers log' desk' (record mine { names = names; polls = polls })
-  desk_keep {shape = shape} {words = words} {words' = words'} {mine = mine} {names = names} t long named_so older
-      numbers many live
+  desk_keep {shape} {words} {words'} {callers} {log} {log'} {desk} {desk'} {mine} t long named_so older numbers many live
       noted sweep leaves =
       record {
         wide = (long, t.wide.1);

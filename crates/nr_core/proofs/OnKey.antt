@@ -173,8 +173,7 @@ pub off_keys : {shape : Shape} {words : List ℕ} {roles : List Role} {log : Lis
     → Knows shape (set words i x) (map_after shape log) (held (set roles id r')) u)
     → Knows shape (set words i x) (map_after shape log) (held (set roles id r')) r'
     → Core shape (set words i x) (set roles id r') log
-off_keys {shape = shape} {words = words} {roles = roles} {log = log} core id {r = r} r' i x behind at w-same r-same
-    keeping conts sums others own =
+off_keys {shape} {words} {roles} {log} core id {r} r' i x behind at w-same r-same keeping conts sums others own =
     let words' = set words i x in
     let roles' = set roles id r' in
     let map = map_after shape log in
@@ -235,8 +234,7 @@ pub no_writer : {shape : Shape} {words : List ℕ} {roles : List Role} {log : Li
     → get_or words' (content shape s i) 0 ≡ get_or words (content shape s i) 0)
     → (j : ℕ) (u : Role) → j ≢ id → get_elem? roles j ≡ some u → Knows shape words (map_after shape log) (held roles) u
     → Knows shape words' map' hold' u
-no_writer {shape = shape} {words = words} {roles = roles} {log = log} core words' map' hold' id {desk = desk} at conts
-    j u =
+no_writer {shape} {words} {roles} {log} core words' map' hold' id {desk} at conts j u =
     let map = map_after shape log in
     elim u as (λ v. j ≢ id → get_elem? roles j ≡ some v → Knows shape words map (held roles) v
     → Knows shape words' map' hold' v) [
@@ -264,8 +262,7 @@ pub recounts : {shape : Shape} {words : List ℕ} {roles : List Role} {log : Lis
     ≡ (get_or words (departures shape slot) 0 + held roles slot) % 2 ^ 40
     → (0 < total (keeps slot) roles → 0 < held roles slot) → Grips shape words (map_after shape log) (held roles) after
     → Core shape (set words (departures shape slot) x) (set roles id (Reader reader after)) log
-recounts {shape = shape} {words = words} {roles = roles} {log = log} core id reader slot x before after near there other
-    counted busy own =
+recounts {shape} {words} {roles} {log} core id reader slot x before after near there other counted busy own =
     let place : ℕ = departures shape slot in
     let map = map_after shape log in
     let words' = set words place x in

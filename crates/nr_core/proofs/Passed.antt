@@ -1,7 +1,8 @@
 -- What is known of the retired slots as their list changes: how often each is there, and that the first were reaped.
-use Rattle.std.proofs.Common.{List, [], Bool, true, false, ap, arith, get_or, length, refl, remove, set, subst, suc}
-use Rattle.std.proofs.Common.{zero, ℕ, ◌++◌, ◌+◌, ◌-◌, ◌<◌, ◌∙◌, ◌∷◌, ◌≡◌, ◌≤◌, slice_index, slice_index_or}
+use Rattle.std.proofs.Common.{List, [], Bool, true, false, ap, arith, get_or, length, refl, remove, set, subst, suc, sym}
+use Rattle.std.proofs.Common.{ℕ, ◌++◌, ◌+◌, ◌-◌, ◌<◌, ◌∙◌, ◌∷◌, ◌≡◌, ◌≤◌, slice_index, slice_index_or}
 use mathlib.Core.Logic.{dite}
+use mathlib.Core.Option.{some}
 use native.Mathlib.Decide.{ℕ_discrete, dec_lt}
 use Rattle.std.proofs.lemmas.List.{get_or-set_other, get_or-set_same, length-append}
 use Rattle.std.proofs.lemmas.List.Edits.{get_or-remove_above, get_or-remove_below, length-remove}
@@ -11,24 +12,23 @@ use Rattle.nr_core.specs.Roles.{retirements}
 use Rattle.nr_core.specs.SlotLists.{AreReaped, CountsRetirements, CountsMore, CountsFewer}
 use Rattle.nr_core.specs.States.{no_retired}
 use Rattle.nr_core.specs.Sums.{only}
-use Rattle.nr_core.proofs.Sums.{only-same, total-append}
+use Rattle.nr_core.proofs.Sums.{got_at, only-same, term_le, total-append, total-remove}
 
 -- without the slot at a place
 pub retired_less : (retired : List Retired) (place : ℕ) (entry : Retired) → place < length retired
     → entry ≡ get_or retired place entry → (slot : ℕ)
     → retirements slot (remove retired place) + only slot entry.slot ≡ retirements slot retired
-retired_less [] place entry inside same slot = absurd (omega arith)
-retired_less (first ∷ others) zero entry inside same slot =
-    let one = ap (λ (it : Retired). only slot it.slot) same in omega arith
-retired_less (first ∷ others) (suc place) entry inside same slot =
-    omega (arith, retired_less others place entry (omega arith) same slot)
+retired_less retired place entry inside same slot =
+    total-remove (λ (it : Retired). only slot it.slot) retired place entry
+    (got_at retired place entry inside ∙ ap some (sym same))
 
 -- a slot that stands at a place
 pub retired_there : (retired : List Retired) (place : ℕ) → place < length retired
     → 0 < retirements (get_or retired place no_retired).slot retired
-retired_there [] place inside = absurd (omega arith)
-retired_there (first ∷ others) zero inside = omega (arith, only-same first.slot)
-retired_there (first ∷ others) (suc place) inside = omega (arith, retired_there others place (omega arith))
+retired_there retired place inside =
+    let entry = get_or retired place no_retired in
+    let least = term_le (λ (it : Retired). only entry.slot it.slot) retired place entry (got_at retired place _ inside) in
+    omega (arith, only-same entry.slot)
 
 module _ (slots : ℕ) (retired after : List Retired) (old new : List ℕ) (slot : ℕ) (same : length new ≡ length old)
     (known : CountsRetirements slots retired old) where

@@ -55,8 +55,7 @@ takes : {shape : Shape} {words : List ℕ} {roles : List Role} {log : List Entry
     let found = get_or words place 0 in
     same_count found entry.arrivals ≡ true
     → Core shape (set words place found) (set roles id (Writer (taking_retired desk call rows poll found))) (log ++ [])
-takes {shape = shape} {words = words} {roles = roles} {log = log} core id {desk = desk} there call rows at poll is_at
-    low agrees =
+takes {shape} {words} {roles} {log} core id {desk} there call rows at poll is_at low agrees =
     let known = core.knows id (Writer desk) there in
     let z : Retired = retired_at desk poll in
     let slot : ℕ = z.slot in

@@ -51,11 +51,10 @@ is_held : (x : Grip) → if_not_holding (erased x) ≡ None → (s : ℕ) × (ro
 is_held Nothing e = absurd (no_some (Some refuse.NotHolding) refuse.NotHolding refl e)
 is_held (On s rows b) e = (s, rows, b, refl)
 
-readable : (i : ℕ) (x : Grip) → if_unreadable i (erased x) ≡ None → (if_not_holding (erased x) ≡ None)
-    × ((s : ℕ) (rows : List Row) (b : Bool) → x ≡ On s rows b → i < length (encode rows))
+readable : (i : ℕ) (x : Grip) → if_unreadable i (erased x) ≡ None
+    → (s : ℕ) × (rows : List Row) × (b : Bool) × (x ≡ On s rows b) × (i < length (encode rows))
 readable i Nothing e = absurd (no_some (Some refuse.NotHolding) refuse.NotHolding refl e)
-readable i (On s rows b) e =
-    (refl, λ s' rows' b' is. rw (sym (same_rows s s' rows rows' b b' is)) (within b e))
+readable i (On s rows b) e = (s, rows, b, refl, within b e)
   where
     within : (b : Bool) → if_beyond i (cond b (Some (length rows)) None) ≡ None → i < length (encode rows)
     within true e =
@@ -212,15 +211,14 @@ after_read state log r p is_core ok =
     let words = state.words in
     let at = at_reader shape r _ ok in
     let o = reader_of is_core.fit r at.0 at.1 in
-    let can = readable p o.0 (ap (if_unreadable p) (sym o.2) ∙ at.2) in
-    let x = is_held o.0 can.0 in
+    let x = readable p o.0 (ap (if_unreadable p) (sym o.2) ∙ at.2) in
     let s = x.0 in
     let m = x.1 in
     let b = x.2 in
     let there = o.1 ∙ ap (λ (y : Grip). some (Reader r y)) x.3 in
     let held : hold_of state r ≡ erased (On s m b) = o.2 ∙ ap erased x.3 in
     let b' : Bool = cond (nat_eq p 0) true b in
-    let t = reads shape r r s m b p (can.1 s m b x.3) words is_core.roles log is_core.core there in
+    let t = reads shape r r s m b p x.4 words is_core.roles log is_core.core there in
     let w : ℕ = get_or words (content shape s p) 0 in
     let known = ap (hold.On s)
     (by_cases

@@ -94,8 +94,7 @@ module _ {A : Type 0} {role : A → Role} {marks : A → Marks} {shape : Shape} 
       → SameContents shape words (operated words operation)
       → tells (get_or words (target_of operation) 0) after (log ++ entries) now []
       → Remarked role marks shape words callers log id operation me after entries tells
-  reader_step {operation = operation} {words = words} {callers = callers} {log = log} m at {reader = reader} {x = x}
-      {y = y} was {after = after} {entries = entries} is names quiet now
+  reader_step {operation} {tells} {words} {callers} {log} m at {reader} {x} {y} was {after} {entries} is names quiet now
       same_polls moves holds contents told =
       let evolves : (who : A) → role who ≡ after → marks who ≡ now → Evolves role marks me who
       = λ who is_role is_marks c z e.

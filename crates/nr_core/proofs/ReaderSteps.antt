@@ -1,7 +1,7 @@
 -- A reader's steps: it requests a key, arrives at its slot, finds it again, looks it up and holds the slot that it
 -- names, reads a word of the slot that it holds, and departs.
 use Rattle.std.proofs.Common.{List, [], ap, arith, false, get_or, inl, inr, refl, suc, sym, ℕ, ◌%◌, ◌+◌, ◌^◌, ◌∙◌, ◌∷◌}
-use Rattle.std.proofs.Common.{◌≡◌, cond, ◌≢◌, eq-eqb, ne_eqb, subst, ◌++◌, Bool, nat_eq, true, set, ◌<◌, ◌-◌}
+use Rattle.std.proofs.Common.{◌≡◌, cond, ◌≢◌, eq-eqb, ne_eqb, subst, ◌++◌, Bool, nat_eq, true, set, ◌<◌}
 use Rattle.nr_model.specs.Maps.{find_reply, state_of, ask_reply, asked, number_of}
 use Rattle.nr_model.specs.declared.calls.Reply.{Reply}
 use Rattle.nr_model.specs.declared.states.KeyState.{KeyState}

@@ -200,12 +200,6 @@ no_slot_is_justified story Go is_core swept after counts e =
     justify story Go is_core a.0 after counts n.0 n.1 outcome refl n.2
 no_slot_is_justified story other is_core swept after counts e = absurd e
 
--- The laws over all lists of events: what stands between any two steps, and the bound on slots.
--- Each kind of step keeps the core state (ReaderSteps, WriterSteps, Poll, Swap), so each event does (ReaderEvents,
--- Events), from the opening on (Opening).
--- Stands and Follows read the law off a core state; Sweeps keeps what the polls of a call tell, and Justified uses both
--- where a call ends with no slot.
-
 swept_tell : (story : Story) (event : Event) → IsCoreState story.state story.history → Swept story.state story.polls
     → Swept (tell story event).state (tell story event).polls
 swept_tell story event is_core swept =

@@ -86,15 +86,7 @@ module _ (shape : Shape) (words : List ℕ) (roles : List Role) (log : List Entr
   named_slot : (k s number : ℕ) (rows : List Row) → k < shape.keys → name_number (get_or words k 0) ≡ suc s
       → state_of (map_after shape log) k ≡ key.Rows number rows
       → Reads shape words (map_after shape log) (held roles) k s []
-  named_slot k s number rows near names full = record {
-    near = near;
-    names = names;
-    number = number;
-    rows = rows;
-    full = full;
-    part = refl;
-    more = omega arith;
-  }
+  named_slot k s number rows near names full = search arith
 
   begins : (call : WriterCall) (s number : ℕ) (rows : List Row) → key_of call < shape.keys
       → name_number (get_or words (key_of call) 0) ≡ suc s → state call ≡ key.Rows number rows
