@@ -127,8 +127,8 @@ module _ {A : Type 0} {role : A → Role} {marks : A → Marks} where
       → AllSince role marks callers polls → Sweeping role marks callers desk' polls desk'.place
       → Leaves shape words words' desk.place desk'.place
       → Desked role marks shape words' callers log' desk' (record mine { names = names; polls = polls })
-  desk_keep {shape} {words} {words'} {callers} {log} {log'} {desk} {desk'} {mine} t long named_so older numbers many live
-      noted sweep leaves =
+  desk_keep {shape} {words} {words'} {callers} {log} {log'} {desk} {desk'} {mine} t long named_so older numbers many
+      live noted sweep leaves =
       record {
         wide = (long, t.wide.1);
         names = named_so;

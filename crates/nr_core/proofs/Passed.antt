@@ -1,6 +1,6 @@
 -- What is known of the retired slots as their list changes: how often each is there, and that the first were reaped.
-use Rattle.std.proofs.Common.{List, [], Bool, true, false, ap, arith, get_or, length, refl, remove, set, subst, suc, sym}
-use Rattle.std.proofs.Common.{ℕ, ◌++◌, ◌+◌, ◌-◌, ◌<◌, ◌∙◌, ◌∷◌, ◌≡◌, ◌≤◌, slice_index, slice_index_or}
+use Rattle.std.proofs.Common.{List, [], Bool, true, false, ap, arith, get_or, length, refl, remove, set, subst, suc}
+use Rattle.std.proofs.Common.{sym, ℕ, ◌++◌, ◌+◌, ◌-◌, ◌<◌, ◌∙◌, ◌∷◌, ◌≡◌, ◌≤◌, slice_index, slice_index_or}
 use mathlib.Core.Logic.{dite}
 use mathlib.Core.Option.{some}
 use native.Mathlib.Decide.{ℕ_discrete, dec_lt}
@@ -27,7 +27,8 @@ pub retired_there : (retired : List Retired) (place : ℕ) → place < length re
     → 0 < retirements (get_or retired place no_retired).slot retired
 retired_there retired place inside =
     let entry = get_or retired place no_retired in
-    let least = term_le (λ (it : Retired). only entry.slot it.slot) retired place entry (got_at retired place _ inside) in
+    let there = got_at retired place no_retired inside in
+    let least = term_le (λ (it : Retired). only entry.slot it.slot) retired place entry there in
     omega (arith, only-same entry.slot)
 
 module _ (slots : ℕ) (retired after : List Retired) (old new : List ℕ) (slot : ℕ) (same : length new ≡ length old)

@@ -1,10 +1,10 @@
 -- What holds of a state that events lead to: what stands between any two steps, in the words of the law; the next event
 -- leads on, and the writer's next step has room.
 use Rattle.std.proofs.Common.{List, [], ap, arith, false, get_or, length, map, refl, subst, suc, sym, true, ℕ, ◌++◌}
-use Rattle.std.proofs.Common.{◌+◌, ◌-◌, ◌<◌, ◌∙◌, ◌∷◌, ◌≡◌, Bool, cond, inl, inr, nat_eq, ⊎_elim, ◌*◌, ◌⊎◌}
+use Rattle.std.proofs.Common.{◌+◌, ◌-◌, ◌<◌, ◌∙◌, ◌∷◌, ◌≡◌, Bool, cond, inl, inr, ◌⊎◌}
 use Rattle.std.proofs.Math.Logic.{∥∥₁_map}
 use Rattle.std.proofs.Props.{props}
-use Rattle.std.specs.Prelude.{None, Option, Some, fold, option_map, Ok, nat_le}
+use Rattle.std.specs.Prelude.{None, Option, Some, fold, option_map, Ok}
 use mathlib.Core.Logic.{dite, ∥∥₁_elim}
 use native.Mathlib.Decide.{dec_le}
 use Rattle.nr_model.specs.Histories.{Entry}
@@ -15,6 +15,8 @@ use Rattle.nr_core.proofs.Counting.{few_retired, fewer_retired, named_inside, na
 use Rattle.nr_core.proofs.Events.{story_core}
 use Rattle.nr_core.proofs.Frames.{stands_at}
 use Rattle.nr_core.proofs.StateRoles.{IsCoreState, erased, state_sums, found_of, reader_of}
+use Rattle.nr_core.proofs.ReaderEvents.{within_set}
+use Rattle.nr_core.proofs.Choices.{by_cases}
 use Rattle.nr_core.proofs.Sums.{got_at, only-same, only-is, term_le}
 use Rattle.nr_core.specs.Core.{AtDesk, AtPlace, Grips, ShowsState}
 use Rattle.nr_core.specs.Laws.{AllGiven, IsGiven, HoldsFound, Stands, map_of}
@@ -37,12 +39,11 @@ use Rattle.nr_core.specs.declared.roles.Role.TheVariants.{Reader, Writer}
 use Rattle.nr_core.specs.declared.shape.Shape.{Shape}
 use Rattle.nr_model.specs.declared.states.KeyState.{KeyState}
 use Rattle.std.proofs.lemmas.List.{get_or_past}
-use Rattle.std.proofs.lemmas.Bool.{eqb-true, leb-true, lt-leb}
+use Rattle.std.proofs.lemmas.Bool.{lt-leb}
 use lib.ListN.{get_elem?}
 use mathlib.Core.Option.{some}
 use Rattle.nr_model.proofs.HistoryLemmas.{sends_are_answered_lem}
 use Rattle.nr_model.specs.declared.rows.Row.{Row}
-use Rattle.nr_words.proofs.SetWordLemmas.{length-row_words}
 use Rattle.nr_words.specs.SetWords.{encode}
 use Rattle.nr_core.proofs.Guards.{guard}
 use Rattle.nr_core.specs.declared.places.Retired.{Retired}
@@ -62,43 +63,26 @@ taken_nobody shape words map hold fresh l s (Putting call rows u departed i) t m
 taken_nobody shape words map hold fresh l s other t mine = absurd (omega arith)
 
 erased_is : (x : Grip) (s : ℕ) (n : Option ℕ) → erased x ≡ hold.On s n
-    → (rows : List Row) × (b : Bool) × (x ≡ On s rows b) × ((n ≡ None) ⊎ (n ≡ Some (length rows)))
+    → (rows : List Row) × (b : Bool) × (x ≡ On s rows b) × (n ≡ cond b (Some (length rows)) None)
 erased_is Nothing s n e = absurd (cc)
-erased_is (On t rows b) s n e = let same : t ≡ s = cc in
-    (rows, b, ap (λ (u : ℕ). On u rows b) same, known b (cc))
-  where
-    known : (b : Bool) → n ≡ cond b (Some (length rows)) None → (n ≡ None) ⊎ (n ≡ Some (length rows))
-    known true e = inr e
-    known false e = inl e
-
--- an index that is not beyond the set is within its words
-within_words : (index : ℕ) (size : Option ℕ) (rows : List Row) → (size ≡ None) ⊎ (size ≡ Some (length rows))
-    → if_beyond index size ≡ None → index < length (encode rows)
-within_words index size rows known ok = ⊎_elim {A = size ≡ None} {B = size ≡ Some (length rows)}
-    (λ unread.
-    let g = guard (nat_eq index 0) None refuse.OutOfRange (ap (if_beyond index) (sym unread) ∙ ok) in
-    omega (arith, eqb-true index 0 g.0))
-    (λ read.
-    let g = guard (nat_le index (2 * length rows)) None refuse.OutOfRange (ap (if_beyond index) (sym read) ∙ ok) in
-    omega (arith, leb-true index (2 * length rows) g.0, length-row_words rows))
-    known
+erased_is (On t rows b) s n e = let same : t ≡ s = cc in (rows, b, ap (λ (u : ℕ). On u rows b) same, cc)
 
 -- a read that is not refused gives the word of the set at the index
-reads_word : (state : State) (reader slot : ℕ) (size : Option ℕ) (rows : List Row) (index : ℕ)
-    → hold_of state reader ≡ hold.On slot size → (size ≡ None) ⊎ (size ≡ Some (length rows))
+reads_word : (state : State) (reader slot : ℕ) (size : Option ℕ) (rows : List Row) (b : Bool) (index : ℕ)
+    → hold_of state reader ≡ hold.On slot size → size ≡ cond b (Some (length rows)) None
     → ((i : ℕ) → i < length (encode rows)
     → get_or state.words (content state.shape slot i) 0 ≡ get_or (encode rows) i 0)
     → refusal state (Read reader index) ≡ None → read_answer state reader index ≡ Ok (get_or (encode rows) index 0)
-reads_word state reader slot size rows index holds_it known spelt ok =
+reads_word state reader slot size rows b index holds_it known spelt ok =
     let g = guard (has_reader state.shape reader) (if_unreadable index (hold_of state reader)) refuse.OutOfRange ok in
-    let low = within_words index size rows known (ap (if_unreadable index) (sym holds_it) ∙ g.1) in
-    cc (spelt index low)
+    let beyond = ap (if_beyond index) (sym known) ∙ ap (if_unreadable index) (sym holds_it) ∙ g.1 in
+    cc (spelt index (within_set index rows b beyond))
 
 -- a reader that holds a slot, by its role
 module _ (story : Story) (is_core : IsCoreState story.state story.history) (r s : ℕ) (n : Option ℕ) (low : 0 < r)
     (holds_it : hold_of story.state r ≡ hold.On s n) where
   holder_role : (rows : List Row) × (b : Bool) × (get_elem? is_core.roles r ≡ some (Reader r (On s rows b)))
-      × ((n ≡ None) ⊎ (n ≡ Some (length rows)))
+      × (n ≡ cond b (Some (length rows)) None)
   holder_role =
       let high = dite (dec_le r story.state.shape.readers) (λ l. l)
       (λ l.
@@ -121,8 +105,9 @@ module _ (story : Story) (is_core : IsCoreState story.state story.history) (r s 
         found = found_it.2;
         row_set = knows.1.0;
         spelt = knows.1.1;
-        known = role.3;
-        reads = λ index ok. reads_word state r s n role.0 index holds_it role.3 knows.1.1 ok;
+        known = by_cases (λ b. n ≡ cond b (Some (length role.0)) None → (n ≡ None) ⊎ (n ≡ Some (length role.0))) role.1
+            (λ _. inr) (λ _. inl) role.3;
+        reads = λ index ok. reads_word state r s n role.0 role.1 index holds_it role.3 knows.1.1 ok;
       }
 
   -- is counted, and its slot is in range

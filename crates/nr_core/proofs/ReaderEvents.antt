@@ -51,20 +51,20 @@ is_held : (x : Grip) → if_not_holding (erased x) ≡ None → (s : ℕ) × (ro
 is_held Nothing e = absurd (no_some (Some refuse.NotHolding) refuse.NotHolding refl e)
 is_held (On s rows b) e = (s, rows, b, refl)
 
+-- an index that is not beyond the set is within its words
+pub within_set : (index : ℕ) (rows : List Row) (sized : Bool)
+    → if_beyond index (cond sized (Some (length rows)) None) ≡ None → index < length (encode rows)
+within_set index rows true ok =
+    let g = guard (nat_le index (2 * length rows)) None refuse.OutOfRange ok in
+    omega (arith, leb-true index (2 * length rows) g.0, length-row_words rows)
+within_set index rows false ok =
+    let g = guard (nat_eq index 0) None refuse.OutOfRange ok in
+    omega (arith, eqb-true index 0 g.0)
+
 readable : (i : ℕ) (x : Grip) → if_unreadable i (erased x) ≡ None
     → (s : ℕ) × (rows : List Row) × (b : Bool) × (x ≡ On s rows b) × (i < length (encode rows))
 readable i Nothing e = absurd (no_some (Some refuse.NotHolding) refuse.NotHolding refl e)
-readable i (On s rows b) e = (s, rows, b, refl, within b e)
-  where
-    within : (b : Bool) → if_beyond i (cond b (Some (length rows)) None) ≡ None → i < length (encode rows)
-    within true e =
-        let g = guard (nat_le i (2 * length rows)) None refuse.OutOfRange e in
-        let l : i ≤ 2 * length rows = leb-true i (2 * length rows) g.0 in
-        let n = length-row_words rows in
-        omega arith
-    within false e =
-        let g = guard (nat_eq i 0) None refuse.OutOfRange e in
-        omega (arith, eqb-true i 0 g.0)
+readable i (On s rows b) e = (s, rows, b, refl, within_set i rows b e)
 
 module _ (state : State) (log : List Entry) (is_core : IsCoreState state log) (r : ℕ) (low : 0 < r)
     (high : r ≤ state.shape.readers) where

@@ -79,21 +79,7 @@ module _ (shape : Shape) (words : List ℕ) (map : PartialMap) (hold : ℕ → �
       (λ yes.
       let l : desk.fresh < shape.slots = ltb-true desk.fresh shape.slots yes in
       let f = t.free desk.fresh (omega arith) l in
-      record {
-        place =
-            record {
-              wants = wants;
-              inside = l;
-              nobody = f.0;
-              counted = f.1;
-              within = omega arith;
-              put = λ j low. absurd (omega arith);
-            };
-        room = omega arith;
-        free = λ s from near. t.free s (omega arith) near;
-        retired = t.retired;
-        numbers = t.numbers;
-      })
+      search (arith, wants, l, f, t.free, t))
       (λ no. let full : shape.slots ≤ desk.fresh = ltb-false desk.fresh shape.slots no in
       on_test (λ (o : Desk × Step). AtDesk shape words map hold o.0) (nat_eq (length desk.retired) 0) (λ _. t)
       (λ some_there.

@@ -55,32 +55,14 @@ module _ {shape : Shape} {words : List ℕ} {roles : List Role} {log : List Entr
         → CoreWith shape words roles id operation (Reader reader after) (log ++ entry reader call answer ∷ [])
         → Tells words operation tells (Reader reader after) (entry reader call answer ∷ [])
         → Stepped shape words roles log id (Reader reader before) operation tells
-    reader_tells call answer core told = record {
-      after = Reader reader after;
-      entries = entry reader call answer ∷ [];
-      core = core;
-      same = λ _. refl;
-      writer = refl;
-      reader = refl;
-      own = λ _. refl;
-      told = told;
-    }
+    reader_tells call answer core told = search (core, told)
 
   pub writer_makes : {desk : Desk} (after : Desk) (entries : List Entry)
       → CoreWith shape words roles id operation (Writer after) (log ++ entries)
       → ((caller : ℕ) → entries_of entries caller ≡ cond (nat_eq 0 caller) entries [])
       → Tells words operation tells (Writer after) entries
       → Stepped shape words roles log id (Writer desk) operation tells
-  writer_makes after entries core own told = record {
-    after = Writer after;
-    entries = entries;
-    core = core;
-    same = λ _. refl;
-    writer = refl;
-    reader = refl;
-    own = own;
-    told = told;
-  }
+  writer_makes after entries core own told = search (core, own, told)
 
 -- the core state after a step, by the role and the entries that it tells
 pub core_after : {shape : Shape} {words : List ℕ} {roles : List Role} {log : List Entry} {id : ℕ} {role : Role}
