@@ -211,14 +211,5 @@ entry_more {shape} {log = log} core e replies stays =
     ∙ ap (set map.states k) stays ∙ set-get_or map.states k (key.Hole 0) in
     let same : map_after shape (log ++ e ∷ []) ≡ map
     = now-more shape log e ∙ ap (λ (states : List KeyState). record { bound = map.bound; states = states }) kept in
-    record {
-      fits = core.fits;
-      wide = core.wide;
-      legal = legal-more shape log e core.legal (replies ∙ sym (replies_so shape log e.call));
-      shows = λ at near. rw same (core.shows at near);
-      places = core.places;
-      counts = core.counts;
-      knows = λ id role there. rw same (core.knows id role there);
-      one = core.one;
-      few = core.few;
-    }
+    let legal = legal-more shape log e core.legal (replies ∙ sym (replies_so shape log e.call)) in
+    search (legal, same, core.shows, core.knows, core)

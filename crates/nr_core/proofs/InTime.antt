@@ -39,16 +39,7 @@ GoesOn calls outcome = (call_in outcome.0.place ≡ []) ⊎ ((call_in outcome.0.
 
 module _ (shape : Shape) (desk : Desk) where
   on_now : (shown : KeyState → Type 0) → OfOutcomes shape desk shown (λ call. GoesOn (call ∷ []))
-  on_now shown = record {
-    reads = λ _ _ _. inr (refl, refl);
-    leaves = λ _. inr (refl, refl);
-    withdraws = λ _. inr (refl, refl);
-    replies = λ _ _ _. inl refl;
-    gives_up = λ _. inl refl;
-    takes = λ _ _. inr (refl, refl);
-    searches = λ _ _. inr (refl, refl);
-    none = λ _ _ _ _. inl refl;
-  }
+  on_now shown = search (inl, inr)
 
   went_on : (place : Place) (found : ℕ) → GoesOn (call_in place) (went shape desk place found)
       ⊎ (place ≡ Idle)

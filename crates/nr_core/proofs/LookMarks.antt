@@ -14,12 +14,12 @@ use Rattle.nr_core.specs.Slots.{content, bound_of, name_number}
 use Rattle.nr_core.specs.States.{key_of}
 use Rattle.nr_core.specs.Steps.{Looks, Telling}
 use Rattle.nr_core.specs.Story.{call_of, ending, entry, map_after, ending_at}
-use Rattle.nr_core.specs.Writer.{looked, moved_to, read_on, went}
+use Rattle.nr_core.specs.Writer.{looked, read_on, went}
 use Rattle.nr_core.specs.declared.calls.NoSlot.{NoSlot}
 use Rattle.nr_core.specs.declared.calls.Step.{Step}
 use Rattle.nr_core.specs.declared.calls.Step.TheVariants.{Ended}
 use Rattle.nr_core.specs.declared.calls.WriterCall.{WriterCall}
-use Rattle.nr_core.specs.declared.places.Place.TheVariants.{Idle, Reading, Searching}
+use Rattle.nr_core.specs.declared.places.Place.TheVariants.{Idle, Reading}
 use Rattle.nr_core.specs.declared.places.Retired.{Retired}
 use Rattle.nr_core.specs.declared.roles.Desk.{Desk}
 use Rattle.nr_core.specs.declared.roles.Role.{Role}
@@ -232,17 +232,7 @@ module _ {A : Type 0} (role : A → Role) (marks : A → Marks) where
 
   calm : (shape : Shape) (callers : List A) (desk : Desk) (shown : KeyState → Type 0)
       → OfOutcomes shape desk shown (λ _. Calm callers desk)
-  calm shape callers desk shown = record {
-    reads = λ _ _ _. (refl, refl, refl);
-    leaves = λ _. (refl, refl, refl);
-    withdraws = λ _. (refl, refl, refl);
-    replies = λ _ _ quiet. (refl, none_hold callers (moved_to desk Idle), quiet);
-    gives_up = λ _. (refl, none_hold callers (moved_to desk Idle), refl);
-    takes = λ _ _. (refl, tt, refl);
-    searches = λ call rows. let searching = moved_to desk (Searching call rows 0) in
-        (refl, (none_hold callers searching, λ _. no_notes callers searching), refl);
-    none = λ _ _ _ _. (refl, none_hold callers (moved_to desk Idle), refl);
-  }
+  calm shape callers desk shown = search (none_hold, no_notes)
 
 none_held : (retired : List Retired) → length retired ≡ 0 → AllHeld retired []
 none_held retired none =

@@ -67,15 +67,7 @@ takes {shape} {words} {roles} {log} core id {desk} there call rows at poll is_at
     goes_on core id there place (taking_retired desk call rows poll found) (λ u.
     omega (arith, total-remove (λ (y : Retired). only u y.slot) desk.retired poll z here, ap (taken u) is_at))
     (record {
-      place =
-          record {
-            wants = at_p.0;
-            inside = counted.0;
-            nobody = nobody_holds core slot found z.arrivals counted.1 agrees;
-            counted = refl;
-            within = omega arith;
-            put = λ j l. absurd (omega arith);
-          };
+      place = search (arith, at_p, counted, nobody_holds core slot found z.arrivals counted.1 agrees);
       room = known.room;
       free = known.free;
       retired = λ j x e. let y = at_remove desk.retired poll j x e in known.retired y.0 x y.1;

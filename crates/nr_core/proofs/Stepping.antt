@@ -29,16 +29,9 @@ module _ {shape : Shape} {words : List ℕ} {roles : List Role} {log : List Entr
       → is_writer after ≡ is_writer before → is_reader after ≡ is_reader before
       → CoreWith shape words roles id operation after log → Tells words operation tells after []
       → Stepped shape words roles log id before operation tells
-  quiet {before} after same writer reader core told = record {
-    after = after;
-    entries = [];
-    core = rw (append-nil log) core;
-    same = same;
-    writer = writer;
-    reader = reader;
-    own = λ caller. none_of (is_by caller before);
-    told = told;
-  }
+  quiet after same writer reader core told =
+      let here : CoreWith shape words roles id operation after (log ++ []) = rw (append-nil log) core in
+      search (here, told, none_of)
 
   -- the caller's role stays, and it tells nothing
   pub stays_quiet : {role : Role} → CoreWith shape words roles id operation role log

@@ -204,17 +204,7 @@ module _ (holds : List Hold) (polls : List Poll) where
 
   good : (shape : Shape) (desk : Desk) → polls ≡ [] → (shown : KeyState → Type 0)
       → OfOutcomes shape desk shown (λ _. Good)
-  good shape desk none shown = record {
-    reads = λ _ _ _. none;
-    leaves = λ _. tt;
-    withdraws = λ _. tt;
-    replies = λ _ _ _. tt;
-    gives_up = λ _. tt;
-    takes = λ _ _. tt;
-    searches = λ _ _.
-        record { many = ap length none; slots = ap (map (λ (x : Poll). x.slot)) none; clear = omega arith };
-    none = λ _ _ _ _. tt;
-  }
+  good shape desk none shown = search (arith, none)
 
 some_holder : (s : ℕ) (l : List Hold) (r : ℕ) → 0 < total (on s) l → 0 < length (holders_from r s l)
 some_holder s [] r more = absurd (omega arith)

@@ -173,16 +173,7 @@ module _ (shape : Shape) (desk : Desk) (counts : NoSlot) where
       × (length desk.retired ≡ 0) × WouldBeDone shape call shown
 
   in_vain : (shown : KeyState → Type 0) → OfOutcomes shape desk shown (EndsInVain shown)
-  in_vain shown = record {
-    reads = λ _ _ _ e. absurd (not_going counts e);
-    leaves = λ _ e. absurd (not_going counts e);
-    withdraws = λ _ e. absurd (not_going counts e);
-    replies = λ _ answer _ e. absurd (not_reply counts answer e);
-    gives_up = λ _ e. absurd (not_going counts e);
-    takes = λ _ _ e. absurd (not_going counts e);
-    searches = λ _ _ e. absurd (not_going counts e);
-    none = λ _ full none done e. (record { same = refl; counted = cc }, full, none, done);
-  }
+  in_vain shown = search (arith, not_going, not_reply)
 
   -- a look ends so at a fill of an asked key, and where a filled key's set is replaced
   pub look_none : (call : WriterCall) (w : ℕ) → IsWithout counts (looked shape desk call w)

@@ -103,13 +103,8 @@ module _ (shape : Shape) (words : List ℕ) (roles : List Role) (log : List Entr
   look_all : (call : WriterCall) → IsGivenCall (bound_of shape) call → key_of call < shape.keys
       → (z : KeyState) → AtState call z
   look_all (Replace k rows) given near (key.Rows n old) is t =
-      rw (names_one (get_or words k 0) t.0 t.1).0 (settles core id there k (Replace k rows) rows idle_keeps (record {
-        near = near;
-        row_set = given;
-        no_hole = not_hole (state (Replace k rows)) n old is;
-        done = ap (reply_at (bound_of shape) (model.Replace k rows)) is;
-        leaves = cc;
-      }))
+      rw (names_one (get_or words k 0) t.0 t.1).0 (settles core id there k (Replace k rows) rows idle_keeps
+      (search (near, given, not_hole (state (Replace k rows)) n old is, is)))
   look_all (Evict k) given near (key.Rows n rows) is t =
       let named = names_one (get_or words k 0) t.0 t.1 in
       let slot = slot_of (get_or words k 0) in
