@@ -148,16 +148,13 @@ module _ (shape : Shape) where
       pub desk_more : (desk : Desk) → ((k : ℕ) → number_of (state_of m' k) ≡ number_of (state_of m k))
           → ((s : ℕ) → s < shape.slots → 0 < keeps s (Writer desk) → Left s) → AtDesk shape words m hold desk
           → AtDesk shape words' m' hold' desk
-      desk_more desk same_number left t = record {
-        place =
-            place_more desk.fresh desk.retired desk.place (λ s in_range mine. left s in_range (omega arith)) t.place;
-        room = t.room;
-        free =
-            free_more desk.fresh (λ s near from. let u = unused-free s desk.fresh from in left s near (omega arith))
-            t.free;
-        retired = retired_more desk.retired (λ s near mine. left s near (omega arith)) t.retired;
-        numbers = numbers_more shape m m' desk.numbers (λ k _. same_number k) t.numbers;
-      }
+      desk_more desk same_number left t = search (
+        place_more desk.fresh desk.retired desk.place (λ s in_range mine. left s in_range (omega arith)) t.place,
+        free_more desk.fresh (λ s near from. let u = unused-free s desk.fresh from in left s near (omega arith)) t.free,
+        retired_more desk.retired (λ s near mine. left s near (omega arith)) t.retired,
+        numbers_more shape m m' desk.numbers (λ k _. same_number k) t.numbers,
+        t,
+      )
 
       -- what any caller knows
       pub knows_more : (u : Role) → ((k : ℕ) → number_of (state_of m' k) ≡ number_of (state_of m k))
@@ -185,18 +182,9 @@ pub roles_more : {shape : Shape} {words : List ℕ} {roles : List Role} {log : L
     → ((id : ℕ) (role : Role) → get_elem? roles' id ≡ some role
     → Knows shape words (map_after shape log) (held roles) role)
     → Core shape words roles' log
-roles_more {shape} {words} {roles} {log} core roles' still keeping one few knows = record {
-  fits = core.fits;
-  wide = core.wide;
-  legal = core.legal;
-  shows = core.shows;
-  places = λ s near. omega (arith, core.places s near, keeping s near);
-  counts = λ k s near names. rw (still s) (core.counts k s near names);
-  knows = λ id role there. subst (λ (hold : ℕ → ℕ). Knows shape words (map_after shape log) hold role)
-      (λ j s. sym (still s) j) (knows id role there);
-  one = one;
-  few = few;
-}
+roles_more {roles} core roles' still keeping one few knows =
+    let same : held roles' ≡ held roles = λ j s. still s j in
+    search (arith, core.shows, core.places, core.counts, keeping, knows, same, still)
 
 -- an entry that leaves its key's state
 pub entry_more : {shape : Shape} {words : List ℕ} {roles : List Role} {log : List Entry} → Core shape words roles log

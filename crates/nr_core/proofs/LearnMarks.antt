@@ -7,7 +7,7 @@ use Rattle.std.specs.Prelude.{Some}
 use lib.ListN.{get_elem?}
 use lib.Seq.{set-get_or}
 use mathlib.Core.Logic.{dite}
-use mathlib.Core.Option.{some, some-injective, some-ne-none}
+use mathlib.Core.Option.{some, some-injective}
 use native.Mathlib.Decide.{dec_le, ℕ_discrete}
 use Rattle.nr_model.specs.Histories.{Entry}
 use Rattle.nr_model.specs.Maps.{PartialMap}
@@ -114,10 +114,7 @@ module _ {A : Type 0} (role : A → Role) (marks : A → Marks) where
     refreshed [] since = (
       [],
       no_places (Since role marks callers),
-      record {
-        newer = λ n o e. absurd (some-ne-none o (sym e));
-        current = no_places (Current desk.retired (marks me));
-      },
+      search arith,
     )
     refreshed (o ∷ told) since =
         let w = since 0 o refl in let q : Past = past o.reader w.grip (marks w.who) in

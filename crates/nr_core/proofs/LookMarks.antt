@@ -218,12 +218,7 @@ module _ {A : Type 0} (role : A → Role) (marks : A → Marks) where
   none_hold callers desk at note here = absurd (some-ne-none note (sym here))
 
   pub no_notes : (callers : List A) (desk : Desk) → Sweeps role marks callers desk [] 0
-  no_notes callers desk = record {
-    many = refl;
-    slots = λ at entry note _ g. absurd (some-ne-none note (sym g));
-    different = λ reader. omega arith;
-    other = none_hold callers desk;
-  }
+  no_notes callers desk = search (arith, none_hold callers desk)
 
   -- an outcome that leaves the retired slots and puts nothing, where no poll was made yet
   abbrev Calm : List A → Desk → Desk × Step → Type 0
@@ -235,12 +230,7 @@ module _ {A : Type 0} (role : A → Role) (marks : A → Marks) where
   calm shape callers desk shown = search (none_hold, no_notes)
 
 none_held : (retired : List Retired) → length retired ≡ 0 → AllHeld retired []
-none_held retired none =
-    record {
-      many = sym none;
-      slots = λ at entry e. absurd (let l = inside retired at entry e in omega arith);
-      different = λ reader. omega arith;
-    }
+none_held retired none = search (arith, none, inside)
 
 module _ {A : Type 0} (role : A → Role) (marks : A → Marks) (shape : Shape) (id : ℕ) (me : A) (known : List Past) where
   pub looks_marked : (desk : Desk) (call : WriterCall) → desk.place ≡ Idle → key_of call < shape.keys

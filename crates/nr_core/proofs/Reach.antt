@@ -98,17 +98,9 @@ module _ (story : Story) (is_core : IsCoreState story.state story.history) (r s 
       let role = holder_role in
       let knows = is_core.core.knows r (Reader r (On s role.0 role.1)) role.2 in
       let found_it = found_of state story.history is_core r low s role.0 role.1 role.2 in
-      record {
-        at = found_it.0;
-        rows = role.0;
-        before = found_it.1;
-        found = found_it.2;
-        row_set = knows.1.0;
-        spelt = knows.1.1;
-        known = by_cases (λ b. n ≡ cond b (Some (length role.0)) None → (n ≡ None) ⊎ (n ≡ Some (length role.0))) role.1
-            (λ _. inr) (λ _. inl) role.3;
-        reads = λ index ok. reads_word state r s n role.0 role.1 index holds_it role.3 knows.1.1 ok;
-      }
+      let known = by_cases (λ b. n ≡ cond b (Some (length role.0)) None → (n ≡ None) ⊎ (n ≡ Some (length role.0))) role.1
+      (λ _. inr) (λ _. inl) role.3 in
+      search (found_it, knows, known, reads_word state r s n role.0 role.1, role)
 
   -- is counted, and its slot is in range
   pub holder : (0 < held is_core.roles s) × (s < story.state.shape.slots)

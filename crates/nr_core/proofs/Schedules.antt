@@ -137,13 +137,7 @@ go_ending state log polls is_core swept (Reading call s got) is counts e =
     let n = read_none is_core.core state.desk counts call s got (stands_at is_core.core 0 is_core.fit.writer is) e in (
       call,
       refl,
-      record {
-        none = n.0;
-        full = n.1;
-        free = λ _. refl;
-        done = n.3;
-        polled = ap (map (λ (poll : Poll). poll.slot)) none_polled ∙ no_polls state.desk.retired n.2;
-      },
+      search (n, ap (map (λ (poll : Poll). poll.slot)) none_polled ∙ no_polls state.desk.retired n.2),
     )
 go_ending state log polls is_core swept (Searching call rows q) is counts e =
     let shape = state.shape in let words = state.words in let desk = state.desk in let map_now = map_after shape log in
@@ -153,20 +147,11 @@ go_ending state log polls is_core swept (Searching call rows q) is counts e =
     let found = get_or words (departures shape (retired_at desk q).slot) 0 in let within = at_p.1 in
     let n = polled_none shape desk counts call rows q found e in
     let found_is : found_by state Go ≡ found = ap (λ (p : Place). get_or words (target_of (going shape desk p)) 0) is in
-    let miss = ap (λ (w : ℕ). same_count w (retired_at desk q).arrivals) found_is ∙ n.2 in (
-      call,
-      refl,
-      record {
-        none = n.0;
-        full = at_p.2;
-        free = λ _. refl;
-        done = at_p.0.done;
-        polled =
-            ap (λ b. map (λ (poll : Poll). poll.slot) (cond b polls (polls ++ poll_at state q ∷ []))) miss
-            ∙ polled_slots state polls q within sweep.slots
-            ∙ ap (map (λ (entry : Retired). entry.slot)) (take_all (q + 1) desk.retired (omega (arith, n.1)));
-      },
-    )
+    let miss = ap (λ (w : ℕ). same_count w (retired_at desk q).arrivals) found_is ∙ n.2 in
+    let polled = ap (λ b. map (λ (poll : Poll). poll.slot) (cond b polls (polls ++ poll_at state q ∷ []))) miss
+    ∙ polled_slots state polls q within sweep.slots
+    ∙ ap (map (λ (entry : Retired). entry.slot)) (take_all (q + 1) desk.retired (omega (arith, n.1))) in
+    (call, refl, search (n, at_p, polled))
 
 pub no_slot_is_justified : (story : Story) (event : Event) → IsCoreState story.state story.history
     → Swept story.state story.polls
@@ -182,15 +167,10 @@ no_slot_is_justified story (Start call) is_core swept after counts e =
     let at = at_key shape (key_of call) _ a.0 in
     let idle = is_idle desk.place at.1 in
     let n = look_none shape desk counts call w a.1 in
-    justify story (Start call) is_core a.0 after counts call refl outcome refl (record {
-      none = n.0;
-      full = n.1;
-      free = λ s. ap (taken s) idle;
-      done =
-          n.3 (state_of (map_after shape story.history) (key_of call)) state.words
-          (is_core.core.shows (key_of call) at.0);
-      polled = no_polls desk.retired n.2;
-    })
+    let done = n.3 (state_of (map_after shape story.history) (key_of call)) state.words
+    (is_core.core.shows (key_of call) at.0) in
+    justify story (Start call) is_core a.0 after counts call refl outcome refl
+    (search (n, λ (s : ℕ). ap (taken s) idle, done, no_polls desk.retired n.2))
 no_slot_is_justified story Go is_core swept after counts e =
     let state = story.state in
     let desk = state.desk in

@@ -8,7 +8,7 @@ use Rattle.std.specs.Prelude.{nat_lt, Err, Ok, Result, None, Some, nat_le}
 use lib.ListN.{get_elem?}
 use mathlib.Core.Option.{some}
 use Rattle.nr_model.specs.Histories.{Entry, entries_of}
-use Rattle.nr_model.specs.Maps.{last_number, number_of, reply_at, state_after, state_of, applied_reply, rows_or}
+use Rattle.nr_model.specs.Maps.{last_number, reply_at, state_after, state_of, applied_reply, rows_or}
 use Rattle.nr_model.specs.declared.calls.Reply.{Reply}
 use Rattle.nr_model.specs.declared.rows.Row.{Row}
 use Rattle.nr_model.specs.declared.states.KeyState.{KeyState}
@@ -119,15 +119,8 @@ module _ (shape : Shape) (words : List ℕ) (roles : List Role) (log : List Entr
       let so : (b : Bool) → nat_eq (slot_of w) number ≡ b → nat_eq n number ≡ b
       = λ b test. ap (λ (m : ℕ). nat_eq m number) (sym t.2) ∙ test in
       rw (names_none w t.0, eq-eqb (w % 2) 1 t.1)
-      (on_test (After call) (nat_eq (slot_of w) number) (λ own. settles core id there k call rows idle_keeps (record {
-        near = near;
-        row_set = given;
-        no_hole = asked_no_hole (state call) n is;
-        done = ap (reply_at (bound_of shape) c) is ∙ rw (so true own) refl;
-        leaves =
-            ap (state_after (bound_of shape) c) is
-            ∙ rw (so true own) (ap (λ (m : ℕ). key.Rows m rows) (sym (ap number_of is)));
-      }))
+      (on_test (After call) (nat_eq (slot_of w) number) (λ own. settles core id there k call rows idle_keeps
+      (search (near, given, asked_no_hole (state call) n is, is, so true own)))
       (λ other. stops call reply.Stale (key.Asked n) is (rw (so false other) refl) (rw (so false other) refl)))
   look_all (Fill k number rows) given near (key.Rows n old) is t =
       rw (names_one (get_or words k 0) t.0 t.1).0
@@ -185,13 +178,9 @@ module _ {shape : Shape} {words : List ℕ} {roles : List Role} {log : List Entr
 
       renews : (a : Result (List Row) ApplyFault) → applied (bound_of shape) rows batch ≡ a
           → Comes core id there place c (renewed shape desk (Update k batch) a)
-      renews (Ok new) is = settles core id there place (Update k batch) new same (record {
-        near = near;
-        row_set = (batch_moves_rows_lem (bound_of shape) rows new batch row_set.0 is).0;
-        no_hole = not_hole (state_of (map_after shape log) k) number rows full;
-        done = ap (reply_at (bound_of shape) c) full ∙ ap applied_reply is;
-        leaves = leaves (Ok new) is ∙ ap (λ (m : ℕ). key.Rows m new) (sym (ap number_of full));
-      })
+      renews (Ok new) is = settles core id there place (Update k batch) new same
+          (let moved = batch_moves_rows_lem (bound_of shape) rows new batch row_set.0 is in
+          search (near, moved, not_hole (state_of (map_after shape log) k) number rows full, full, is))
       renews (Err f) is =
           ends core id there place (moved_to desk Idle) c (applied_reply (Err f))
           (ap (reply_at (bound_of shape) c) full ∙ ap applied_reply is) (leaves (Err f) is ∙ sym full) same idle
