@@ -28,7 +28,7 @@ use Rattle.nr_core.specs.declared.roles.Grip.TheVariants.{Nothing, On}
 use Rattle.nr_core.specs.declared.roles.Role.{Role}
 use Rattle.nr_core.specs.declared.roles.Role.TheVariants.{Reader}
 use Rattle.nr_core.specs.declared.shape.Shape.{Shape}
-use Rattle.nr_core.proofs.FindAgainMarks.{finds_again_marked}
+use Rattle.nr_core.proofs.LearnMarks.{finds_again_marked}
 use Rattle.nr_core.proofs.ReaderMarks.{arrives_marked, asks_marked, departs_marked, reads_marked}
 use Rattle.nr_core.specs.MarkSteps.{ArrivesMarks, DepartsMarks, FindsAgainMarks, KeepsMarks, found_again}
 use Rattle.nr_board.proofs.Learning.{shows_kind}

@@ -3,7 +3,6 @@
 -- and what holds of reached states.
 pub mod ReaderSteps
 pub mod WriterSteps
-pub mod Poll
 pub mod Learn
 pub mod Opening
 pub mod Seat
@@ -32,7 +31,6 @@ pub mod ReapMarks
 pub mod SearchMarks
 pub mod GoMarks
 pub mod LearnMarks
-pub mod FindAgainMarks
 pub mod SeatMarks
 pub mod ExactPlace
 -- This crate's own.

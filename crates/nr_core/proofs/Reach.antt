@@ -98,8 +98,8 @@ module _ (story : Story) (is_core : IsCoreState story.state story.history) (r s 
       let role = holder_role in
       let knows = is_core.core.knows r (Reader r (On s role.0 role.1)) role.2 in
       let found_it = found_of state story.history is_core r low s role.0 role.1 role.2 in
-      let known = by_cases (λ b. n ≡ cond b (Some (length role.0)) None → (n ≡ None) ⊎ (n ≡ Some (length role.0))) role.1
-      (λ _. inr) (λ _. inl) role.3 in
+      let known = by_cases (λ b. n ≡ cond b (Some (length role.0)) None → (n ≡ None) ⊎ (n ≡ Some (length role.0)))
+      role.1 (λ _. inr) (λ _. inl) role.3 in
       search (found_it, knows, known, reads_word state r s n role.0 role.1, role)
 
   -- is counted, and its slot is in range

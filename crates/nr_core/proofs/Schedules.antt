@@ -1,5 +1,5 @@
 -- The laws over all lists of events: what stands between any two steps, and the bound on slots.
--- Each kind of step keeps the core state (ReaderSteps, WriterSteps, Poll, Swap), so each event does (ReaderEvents,
+-- Each kind of step keeps the core state (ReaderSteps, WriterSteps, Settle, Swap), so each event does (ReaderEvents,
 -- Events), from the opening on (Opening).
 -- Reach and Follows read the law off a core state; Sweeps keeps what the polls of a call tell, and both justify a call
 -- that ends with no slot (no_slot_is_justified).

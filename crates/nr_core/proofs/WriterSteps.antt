@@ -17,7 +17,7 @@ use Rattle.nr_core.proofs.Choices.{on_test, by_cases}
 use Rattle.nr_core.proofs.Frames.{asked_no_hole, not_hole, stands_at}
 use Rattle.nr_core.proofs.KeyWords.{names_none, names_one}
 use Rattle.nr_core.proofs.Settle.{ends, key_same, own_ending, settles, keeps_moved, moved_desk, moves, Comes, goes_on}
-use Rattle.nr_core.proofs.Settle.{Makes}
+use Rattle.nr_core.proofs.Settle.{Makes, polls}
 use Rattle.nr_core.specs.Core.{AtDesk, Core, ShowsState, Reads}
 use Rattle.nr_core.specs.Given.{IsGivenCall}
 use Rattle.nr_core.specs.Roles.{held, keeps}
@@ -46,7 +46,6 @@ use Rattle.nr_core.proofs.ReadThrough.{length-got_next, read_first, read_next, r
 use Rattle.nr_model.specs.declared.calls.Call.{Call}
 use Rattle.nr_core.proofs.Guards.{no_some}
 use Rattle.nr_core.proofs.OnKey.{none_of}
-use Rattle.nr_core.proofs.Poll.{polls}
 use Rattle.nr_core.proofs.Swap.{puts, publishes, unpublishes, withdraws}
 use Rattle.nr_core.specs.Operations.{going, target_of, operated}
 use Rattle.nr_core.specs.declared.operation.Operation.{Operation}
