@@ -12,7 +12,7 @@ use Rattle.nr_core.specs.Core.{AreNumbers, AtDesk, AtPlace, Core, Knows, Grips, 
 use Rattle.nr_core.specs.Roles.{grips, keeps, taken, held, is_reader, is_writer}
 use Rattle.nr_core.specs.Slots.{SlotSpells, bound_of, content, departures, name_number, unused}
 use Rattle.nr_core.specs.States.{key_of}
-use Rattle.nr_core.specs.Story.{call_of, map_after, opening_map}
+use Rattle.nr_core.specs.Story.{map_after, opening_map}
 use Rattle.nr_core.specs.Sums.{only, total}
 use Rattle.nr_core.specs.declared.calls.WriterCall.{WriterCall}
 use Rattle.nr_core.specs.declared.places.Place.{Place}
@@ -104,21 +104,13 @@ module _ (shape : Shape) where
         → (hold s ≡ 0) × (get_or words (departures shape s) 0 ≡ shape.first_count))
         → (s : ℕ) → fresh ≤ s → s < shape.slots
         → (hold' s ≡ 0) × (get_or words' (departures shape s) 0 ≡ shape.first_count)
-    free_more fresh left t s from near =
-        let f = t s from near in
-        let l = left s near from in
-        (l.nobody f.0, l.deps f.0 ∙ f.1)
+    free_more fresh left t s from near = search arith
 
     module _ (names : (k : ℕ) → k < shape.keys → name_number (get_or words' k 0) ≡ name_number (get_or words k 0))
         (stays : (k : ℕ) → ((number : ℕ) → state_of m k ≡ key.Hole number → ⊥) → state_of m' k ≡ state_of m k) where
       pub wants_more : (call : WriterCall) (rows : List Row) → Wants shape words m hold call rows
           → Wants shape words' m' hold' call rows
-      wants_more call rows t = let same = stays (key_of call) t.no_hole in assumption (
-        λ (number : ℕ) (e : state_of m' (key_of call) ≡ key.Hole number). t.no_hole number (sym same ∙ e),
-        ap (reply_at (bound_of shape) (call_of call)) same ∙ t.done,
-        ap (state_after (bound_of shape) (call_of call)) same ∙ t.leaves
-            ∙ ap (λ (z : KeyState). key.Rows (number_of z) rows) (sym same),
-      )
+      wants_more call rows t = search (arith, t.no_hole, t.done, t.leaves)
 
       pub reads_more : (k s : ℕ) (got : List ℕ) → Reads shape words m hold k s got → Reads shape words' m' hold' k s got
       reads_more k s got t =

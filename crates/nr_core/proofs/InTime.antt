@@ -1,6 +1,6 @@
 -- Each entry is told between its call's first step and its last.
-use Rattle.std.proofs.Common.{[], List, ap, append-nil, append_assoc, arith, cond, fold, inl, inr, length, map, refl}
-use Rattle.std.proofs.Common.{subst, sym, ℕ, ⊎_elim, ◌++◌, ◌+◌, ◌*◌, ◌<◌, ◌∙◌, ◌∷◌, ◌≡◌, ◌⊎◌}
+use Rattle.std.proofs.Common.{[], List, ap, append-nil, append_assoc, arith, fold, inl, inr, length, map, refl, subst}
+use Rattle.std.proofs.Common.{sym, ℕ, ⊎_elim, ◌++◌, ◌+◌, ◌*◌, ◌<◌, ◌∙◌, ◌∷◌, ◌≡◌, ◌⊎◌}
 use Rattle.std.proofs.lemmas.List.Sums.{fold-append}
 use Rattle.std.proofs.lemmas.Bool.{ne_eqb}
 use Rattle.std.specs.Prelude.{None, Option, Some, nat_le, nat_lt}
@@ -113,10 +113,7 @@ leaves_if story event does = go (refusal story.state event) refl
 
 -- what a reader's event tells isn't the writer's
 of_reader : (story : Story) (event : Event) → 0 < caller_of_event event → entries_of (told story.state event) 0 ≡ []
-of_reader story event reader =
-    told_by_caller story.state event 0
-    ∙ ap (λ v. cond {A = List Entry} v (told story.state event) [])
-    (ne_eqb (caller_of_event event) 0 (λ zero. let e : caller_of_event event ≡ 0 = zero in omega arith))
+of_reader story event reader = search (arith, told_by_caller, ne_eqb)
 
 leaves : (story : Story) (event : Event) → Leaves story event
 leaves story (Read reader index) = leaves_if story (Read reader index) (λ _. inl (refl, refl))

@@ -1,9 +1,7 @@
 -- What is known of the retired slots as their list changes: how often each is there, and that the first were reaped.
 use Rattle.std.proofs.Common.{List, [], Bool, true, false, ap, arith, get_or, length, refl, remove, set, subst, suc}
-use Rattle.std.proofs.Common.{sym, ℕ, ◌++◌, ◌+◌, ◌-◌, ◌<◌, ◌∙◌, ◌∷◌, ◌≡◌, ◌≤◌, slice_index, slice_index_or}
-use mathlib.Core.Logic.{dite}
+use Rattle.std.proofs.Common.{sym, ℕ, ◌++◌, ◌+◌, ◌-◌, ◌<◌, ◌∙◌, ◌∷◌, ◌≡◌, ◌≤◌, slice_index}
 use mathlib.Core.Option.{some}
-use native.Mathlib.Decide.{ℕ_discrete, dec_lt}
 use Rattle.std.proofs.lemmas.List.{get_or-set_other, get_or-set_same, length-append}
 use Rattle.std.proofs.lemmas.List.Edits.{get_or-remove_above, get_or-remove_below, length-remove}
 use Rattle.std.proofs.Math.ListN.{get_or-append}
@@ -25,33 +23,19 @@ retired_less retired place entry inside same slot =
 -- a slot that stands at a place
 pub retired_there : (retired : List Retired) (place : ℕ) → place < length retired
     → 0 < retirements (get_or retired place no_retired).slot retired
-retired_there retired place inside =
-    let entry = get_or retired place no_retired in
-    let there = got_at retired place no_retired inside in
-    let least = term_le (λ (it : Retired). only entry.slot it.slot) retired place entry there in
-    omega (arith, only-same entry.slot)
+retired_there retired place inside = search (arith, got_at, term_le, only-same)
 
 module _ (slots : ℕ) (retired after : List Retired) (old new : List ℕ) (slot : ℕ) (same : length new ≡ length old)
     (known : CountsRetirements slots retired old) where
   pub counts_more : CountsMore slot old new
       → ((other : ℕ) → retirements other after ≡ only other slot + retirements other retired)
       → CountsRetirements slots after new
-  counts_more more adds = (
-    same ∙ known.0,
-    λ other inside few.
-        let told = more other (omega (arith, known.0)) few in
-        omega (arith, known.1 other inside told.0, adds other),
-  )
+  counts_more more adds = search arith
 
   pub counts_fewer : CountsFewer slot old new
       → ((other : ℕ) → retirements other after + only other slot ≡ retirements other retired)
       → CountsRetirements slots after new
-  counts_fewer fewer takes = (
-    same ∙ known.0,
-    λ other inside few.
-        let told = fewer other (omega (arith, known.0)) few in
-        omega (arith, known.1 other inside told.0, takes other),
-  )
+  counts_fewer fewer takes = search arith
 
 pub retired_last : (retired : List Retired) (entry : Retired) (other : ℕ)
     → retirements other (retired ++ entry ∷ []) ≡ only other entry.slot + retirements other retired
@@ -60,56 +44,22 @@ retired_last retired entry other =
 
 module _ (count : ℕ) (retired : List Retired) (reaped : List Bool) (known : AreReaped count retired reaped) where
   pub reaped_still : (more : List Retired) → AreReaped count (retired ++ more) reaped
-  reaped_still more =
-      let longer = length-append retired more in (
-        omega (arith, known.0),
-        λ place first.
-            cc (get_or-append retired more no_retired place (omega (arith, known.0)), known.1 place first),
-      )
+  reaped_still more = search (arith, length-append, get_or-append)
 
   -- without one of them, or without a later one
   pub reaped_before : (at : ℕ) → at < count → AreReaped (count - 1) (remove retired at) reaped
-  reaped_before at early =
-      let shorter = length-remove retired at (omega (arith, known.0)) in (
-        omega (arith, known.0),
-        λ place first. dite (dec_lt place at)
-            (λ below. ap (λ (it : Retired). slice_index_or reaped it.slot false)
-            (get_or-remove_below retired at no_retired place below (omega (arith, known.0)))
-            ∙ known.1 place (omega arith))
-            (λ above. ap (λ (it : Retired). slice_index_or reaped it.slot false)
-            (get_or-remove_above retired at no_retired place (omega arith) (omega (arith, known.0)))
-            ∙ known.1 (place + 1) (omega arith)),
-      )
+  reaped_before at early = search (arith, length-remove, get_or-remove_below, get_or-remove_above)
 
   pub reaped_behind : (at : ℕ) → count ≤ at → at < length retired → AreReaped count (remove retired at) reaped
-  reaped_behind at late inside =
-      let shorter = length-remove retired at inside in (
-        omega arith,
-        λ place first. cc (get_or-remove_below retired at no_retired place (omega arith) inside, known.1 place first),
-      )
+  reaped_behind at late inside = search (arith, length-remove, get_or-remove_below)
 
   -- one more was reaped
   pub reaped_too : (slot : ℕ) → slot < length reaped → AreReaped count retired (set reaped slot true)
-  reaped_too slot inside = (
-    known.0,
-    λ place first.
-        let here = (get_or retired place no_retired).slot in
-        dite (ℕ_discrete here slot)
-        (λ same. ap (λ it. get_or (set reaped slot true) it false) same ∙ get_or-set_same reaped slot true false inside)
-        (λ other. get_or-set_other reaped slot here true false other ∙ known.1 place first),
-  )
+  reaped_too slot inside = search (arith, get_or-set_same, get_or-set_other)
 
   -- one that isn't retired was put
   pub reaped_others : (slot : ℕ) → retirements slot retired ≡ 0 → AreReaped count retired (set reaped slot false)
-  reaped_others slot none = (
-    known.0,
-    λ place first.
-        let here = (get_or retired place no_retired).slot in
-        get_or-set_other reaped slot here false false (λ same.
-        let moved = ap (λ it. retirements it retired) same in
-        absurd (omega (arith, retired_there retired place (omega (arith, known.0)))))
-        ∙ known.1 place first,
-  )
+  reaped_others slot none = search (arith, get_or-set_other, retired_there)
 
 pub reaped_tail : (count : ℕ) (first : Retired) (others : List Retired) (reaped : List Bool)
     → AreReaped count (first ∷ others) reaped → AreReaped (count - 1) others reaped
@@ -125,9 +75,7 @@ pub counts_taken : (slots : ℕ) (retired after : List Retired) (old new : List 
     → length new ≡ length old → CountsRetirements slots retired old → CountsFewer entry.slot old new
     → CountsRetirements slots after new
 counts_taken slots retired after old new place entry inside here gone same known fewer =
-    counts_fewer slots retired after old new entry.slot same known fewer
-    (λ other. let less = retired_less retired place entry inside here other in
-    let moved = ap (retirements other) gone in omega arith)
+    search (arith, counts_fewer, retired_less)
 
 -- a slot was put behind the others, or before them
 pub counts_put : (slots : ℕ) (retired after : List Retired) (old new : List ℕ) (entry : Retired)

@@ -23,7 +23,7 @@ use Rattle.nr_core.specs.Laws.{AllGiven, IsGiven, HoldsFound, Stands, map_of}
 use Rattle.nr_core.specs.Machine.{moved, next_state, run, unless, read_answer}
 use Rattle.nr_core.specs.Room.{HasRoom, RoomForStep, RoomOf}
 use Rattle.nr_core.specs.Reach.{Reached}
-use Rattle.nr_core.specs.Refusals.{refusal, has_reader, if_beyond, if_unreadable}
+use Rattle.nr_core.specs.Refusals.{refusal}
 use Rattle.nr_core.specs.Roles.{held, taken, holds}
 use Rattle.nr_core.specs.Sizes.{IsShape}
 use Rattle.nr_core.specs.Slots.{bound_of, name_number, named, content}
@@ -50,7 +50,6 @@ use Rattle.nr_core.specs.declared.places.Retired.{Retired}
 use Rattle.std.proofs.lemmas.List.Sums.{fold-append}
 use Rattle.nr_core.specs.declared.places.Hold.TheVariants as hold
 use Rattle.nr_model.specs.declared.states.KeyState.TheVariants as key
-use Rattle.nr_core.specs.declared.calls.Refusal.TheVariants as refuse
 
 -- What the core state of a story says in the words of the law: what stands between any two steps.
 
@@ -73,10 +72,7 @@ reads_word : (state : State) (reader slot : ℕ) (size : Option ℕ) (rows : Lis
     → ((i : ℕ) → i < length (encode rows)
     → get_or state.words (content state.shape slot i) 0 ≡ get_or (encode rows) i 0)
     → refusal state (Read reader index) ≡ None → read_answer state reader index ≡ Ok (get_or (encode rows) index 0)
-reads_word state reader slot size rows b index holds_it known spelt ok =
-    let g = guard (has_reader state.shape reader) (if_unreadable index (hold_of state reader)) refuse.OutOfRange ok in
-    let beyond = ap (if_beyond index) (sym known) ∙ ap (if_unreadable index) (sym holds_it) ∙ g.1 in
-    cc (spelt index (within_set index rows b beyond))
+reads_word state reader slot size rows b index holds_it known spelt ok = search (arith, guard, state.shape, within_set)
 
 -- a reader that holds a slot, by its role
 module _ (story : Story) (is_core : IsCoreState story.state story.history) (r s : ℕ) (n : Option ℕ) (low : 0 < r)

@@ -6,9 +6,7 @@ use Rattle.std.proofs.Common.{◌+◌, ◌<◌, ◌∙◌, ◌≡◌, ◌≤◌,
 use Rattle.std.proofs.lemmas.Bool.{eqb-false, lt-leb, ltb-false, ltb-true, eqb-true}
 use Rattle.std.specs.Prelude.{nat_lt}
 use lib.ListN.{get_elem?}
-use mathlib.Core.Logic.{dite}
 use mathlib.Core.Option.{some}
-use native.Mathlib.Decide.{dec_le, ℕ_discrete}
 use Rattle.nr_model.specs.Histories.{Entry, entries_of}
 use Rattle.nr_model.specs.Maps.{PartialMap, call_key, reply_at, state_after, state_of}
 use Rattle.nr_model.specs.declared.calls.Call.{Call}
@@ -46,18 +44,7 @@ use Rattle.nr_core.specs.declared.calls.WReply.TheVariants as writer
 
 -- 1 of a slot that was never taken, and what a taking leaves
 unused-next : (s f : ℕ) → unused s (f + 1) + only s f ≡ unused s f
-unused-next s f = dite (dec_le (f + 1) s)
-    (λ l.
-    let a = unused-free s (f + 1) l in
-    let b = unused-free s f (omega arith) in
-    omega (arith, only-other s f (λ e. omega arith)))
-    (λ l.
-    let a : unused s (f + 1) ≡ 0 = ap (λ b. cond {A = ℕ} b 1 0) (lt-leb (f + 1) s (omega arith)) in
-    dite (ℕ_discrete f s)
-    (λ e. let b = unused-free s f (omega arith) in let c : only s f ≡ 1 = ap (only s) e ∙ only-same s in omega arith)
-    (λ ne.
-    let c = only-other s f ne in
-    omega (arith, ap (λ b. cond {A = ℕ} b 1 0) (lt-leb f s (omega arith)))))
+unused-next s f = search (arith, unused-free, only-other, lt-leb, only-same)
 
 pub key_same : (call : WriterCall) → call_key (call_of call) ≡ key_of call
 key_same (Find k) = refl
@@ -93,16 +80,10 @@ module _ (shape : Shape) (words : List ℕ) (map : PartialMap) (hold : ℕ → �
       moved_desk t (Searching call rows 0) (wants, omega (arith, eqb-false (length desk.retired) 0 some_there), full)))
 
   settle_keeps : (s : ℕ) → keeps s (Writer (settled shape desk call rows).0) ≡ keeps s (Writer (moved_to desk Idle))
-  settle_keeps s =
-      let Keeps : Desk × Step → Type 0 = λ o. keeps s (Writer o.0) ≡ keeps s (Writer (moved_to desk Idle)) in
-      on_test Keeps (nat_lt desk.fresh shape.slots) (λ _. let u = unused-next s desk.fresh in omega arith)
-      (λ _. on_test Keeps (nat_eq (length desk.retired) 0) (λ _. refl) (λ _. refl))
+  settle_keeps s = search (arith, on_test, unused-next)
 
   settle_quiet : (c : Call) → ending c (settled shape desk call rows).1 ≡ []
-  settle_quiet c =
-      let Quiet : Desk × Step → Type 0 = λ o. ending c o.1 ≡ [] in
-      on_test Quiet (nat_lt desk.fresh shape.slots) (λ _. refl)
-      (λ _. on_test Quiet (nat_eq (length desk.retired) 0) (λ _. refl) (λ _. refl))
+  settle_quiet c = search (arith, on_test)
 
 module _ {shape : Shape} {words : List ℕ} {roles : List Role} {log : List Entry} (core : Core shape words roles log)
     (id : ℕ) {desk : Desk} (there : get_elem? roles id ≡ some (Writer desk)) where

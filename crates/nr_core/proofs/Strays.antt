@@ -17,7 +17,7 @@ use Rattle.nr_core.specs.Marks.{Marks, Past}
 use Rattle.nr_core.specs.PollNotes.{AllHeld}
 use Rattle.nr_core.specs.Pasts.{AllCurrent, Living}
 use Rattle.nr_core.specs.Exact.{Tidy, named_puts, pinned_put, pins, retired_puts}
-use Rattle.nr_core.proofs.Tidy.{count_is, how_often, name_has, named_often, stray_count, strays_count}
+use Rattle.nr_core.proofs.Tidy.{count_is, how_often, named_often, stray_count, strays_count}
 use Rattle.nr_core.proofs.ListPlaces.{at_maps, at_unmap}
 use Rattle.std.proofs.lemmas.List.{length-map}
 
@@ -103,14 +103,7 @@ pins_it (x ∷ xs) (suc n) p slot e is = let t = pins_it xs n p slot e is in mor
 
 named_at : (puts names : List ℕ) (i slot : ℕ) → i < length names → get_or names i 0 ≡ suc slot
     → 0 < how_often (get_or puts slot 0) (named_puts puts names)
-named_at puts names i slot l e =
-    let number : ℕ = get_or puts slot 0 in
-    omega (
-      arith,
-      named_often puts names number,
-      term_le (name_has puts number) names i (suc slot) (got_at names i 0 l ∙ ap some e),
-      only-same number,
-    )
+named_at puts names i slot l e = search (arith, named_often, term_le, got_at, only-same)
 
 retired_put_at : (puts : List ℕ) (retired : List Retired) (i : ℕ) (entry : Retired) → get_elem? retired i ≡ some entry
     → get_elem? (retired_puts puts retired) i ≡ some (get_or puts entry.slot 0)

@@ -71,10 +71,7 @@ pub only-is : (k x : ℕ) → 0 < only k x → x ≡ k
 only-is k x h = dite (ℕ_discrete x k) (λ e. e) (λ ne. absurd (omega (arith, only-other k x ne)))
 
 pub only-suc : (s t : ℕ) → only (suc s) (suc t) ≡ only s t
-only-suc s t =
-    dite (ℕ_discrete t s)
-    (λ e. cc (eq-eqb (suc t) (suc s) (ap suc e), eq-eqb t s e))
-    (λ ne. only-other (suc s) (suc t) (λ e. ne (omega arith)) ∙ sym (only-other s t ne))
+only-suc s t = search (arith, eq-eqb, only-other)
 
 pub only-zero : (s : ℕ) → only (suc s) 0 ≡ 0
 only-zero s = only-other (suc s) 0 (λ e. omega arith)

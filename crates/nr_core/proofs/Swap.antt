@@ -1,9 +1,9 @@
 -- The writer's stores: of one word of its set into the slot that it took (puts), and of another word for a key's word,
 -- by which the slot that it named is retired: by a fill or an update, which publishes its slot, by an eviction and by a
 -- cancel.
-use Rattle.std.proofs.Common.{[], List, ap, append-nil, arith, cond, get_or, get_or-set_other, inl, inr, set, subst}
-use Rattle.std.proofs.Common.{suc, sym, ℕ, ⊎_elim, ◌%◌, ◌++◌, ◌+◌, ◌<◌, ◌^◌, ◌∙◌, ◌∷◌, ◌≡◌, ◌⊎◌, length, ◌*◌, false}
-use Rattle.std.proofs.Common.{refl, ◌≢◌, get_or-set_same, ◌≤◌}
+use Rattle.std.proofs.Common.{[], List, ap, append-nil, arith, cond, get_or, get_or-set_other, set, subst, suc, sym, ℕ}
+use Rattle.std.proofs.Common.{⊎_elim, ◌%◌, ◌++◌, ◌+◌, ◌<◌, ◌^◌, ◌∙◌, ◌∷◌, ◌≡◌, ◌⊎◌, length, ◌*◌, false, refl, ◌≢◌}
+use Rattle.std.proofs.Common.{get_or-set_same, ◌≤◌}
 use lib.ListN.{get_elem?}
 use mathlib.Core.Option.{some}
 use Rattle.nr_model.specs.Histories.{Entry}
@@ -60,14 +60,7 @@ unnamed_sum s w =
 
 unnamed_at : (l : List Retired) (w i : ℕ) (x : Retired) → get_elem? (l ++ unnamed w) i ≡ some x
     → (get_elem? l i ≡ some x) ⊎ ((name_number w ≡ suc x.slot) × (arrivals_of w ≡ x.arrivals))
-unnamed_at l w i x =
-    by_cases (λ v. get_elem? (l ++ cond v (record { slot = slot_of w; arrivals = arrivals_of w } ∷ []) []) i ≡ some x
-    → (get_elem? l i ≡ some x) ⊎ ((cond v (slot_of w + 1) 0 ≡ suc x.slot) × (arrivals_of w ≡ x.arrivals))) (is_filled w)
-    (λ _ e. ⊎_elim (λ (t : get_elem? l i ≡ some x). inl t)
-    (λ (t : (record { slot = slot_of w; arrivals = arrivals_of w }) ≡ x). let same : slot_of
-    w ≡ x.slot = ap (λ (y : Retired). y.slot) t in inr (omega arith, ap (λ (y : Retired). y.arrivals) t))
-    (at_snoc l (record { slot = slot_of w; arrivals = arrivals_of w }) x i e))
-    (λ _ e. inl (subst (λ (y : List Retired). get_elem? y i ≡ some x) (append-nil l) e))
+unnamed_at l w i x = search (arith, by_cases, at_snoc, append-nil)
 
 module _ {shape : Shape} {words : List ℕ} {roles : List Role} {log : List Entry} (core : Core shape words roles log)
     (id : ℕ) {desk : Desk} (there : get_elem? roles id ≡ some (Writer desk)) where

@@ -163,11 +163,7 @@ module _ {A : Type 0} (role : A → Role) (marks : A → Marks) (shape : Shape) 
   rests_with number = total (λ (x : Retired). only number (get_or (marks me).puts x.slot 0)) desk.retired
 
   named_so : (s : ℕ) → total (only (suc s)) (marks me).names ≡ named shape words s
-  named_so s =
-      below-list (only (suc s)) (marks me).names
-      ∙ ap (below (λ i. only (suc s) (get_or (marks me).names i 0))) own.wide.0
-      ∙ below-same (λ i. only (suc s) (get_or (marks me).names i 0))
-      (λ i. only (suc s) (name_number (get_or words i 0))) shape.keys (λ i l. ap (only (suc s)) (own.names i l))
+  named_so s = search (arith, below-list, below-same)
 
   -- a slot that lives and has the number is the only one
   only_it : (number s : ℕ) → (s < shape.slots) × (0 < lives shape words desk s) → get_or (marks me).puts s 0 ≡ number
@@ -193,16 +189,7 @@ module _ {A : Type 0} (role : A → Role) (marks : A → Marks) (shape : Shape) 
   )
 
   one_with : (number : ℕ) → names_with number + rests_with number ≤ 1
-  one_with number = dite (ℕ_discrete (names_with number) 0)
-      (λ z. dite (ℕ_discrete (rests_with number) 0) (λ z'. omega arith) (λ nz.
-      let u
-      = some_term (λ (x : Retired). only number (get_or (marks me).puts x.slot 0)) desk.retired (omega arith) in
-      only_it number u.1.slot (by_rest u.0 u.1 u.2) (only-is number (get_or (marks me).puts u.1.slot 0) u.3)))
-      (λ nz.
-      let t = some_term (name_has (marks me).puts number) (marks me).names (omega arith) in
-      let a = name_has-is (marks me).puts number t.1 t.3 in
-      let at = name_at t.0 t.1 t.2 in
-      only_it number a.0 (by_name t.0 a.0 at.0 (at.1 ∙ a.1)) a.2)
+  one_with number = search (arith, some_term, only_it, by_rest, only-is, name_has-is, name_at, by_name)
 
   pub tidy : Tidy desk.retired (marks me) (put_count log)
   tidy = record {
@@ -296,7 +283,4 @@ strays_same keys keys' (q ∷ qs) h = omega (arith, h q, strays_same keys keys' 
 pub strays_by_history : (desk : Desk) (marks : Marks) (shape : Shape) (log : List Entry) (pinned : List ℕ)
     → Lists desk marks shape log
     → strays (named_puts marks.puts marks.names) pinned ≡ strays (filled_puts shape log) pinned
-strays_by_history desk marks shape log pinned lists = strays_count (named_puts marks.puts marks.names) pinned
-    ∙ strays_same (named_puts marks.puts marks.names) (filled_puts shape log) pinned
-    (named_are_filled_puts desk marks shape log lists)
-    ∙ sym (strays_count (filled_puts shape log) pinned)
+strays_by_history desk marks shape log pinned lists = search (arith, strays_count, strays_same, named_are_filled_puts)

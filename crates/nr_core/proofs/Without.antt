@@ -75,11 +75,7 @@ fault_quiet TooMany = refl
 module _ (shape : Shape) (desk : Desk) (P : WriterCall → Desk × Step → Type 0) where
   settled_has : (shown : KeyState → Type 0) → OfOutcomes shape desk shown P → (call : WriterCall) (rows : List Row)
       → WouldBeDone shape call shown → P call (settled shape desk call rows)
-  settled_has shown has call rows done =
-      on_test (P call) (nat_lt desk.fresh shape.slots) (λ _. has.takes call rows)
-      (λ full. on_test (P call) (nat_eq (length desk.retired) 0)
-      (λ none. has.none call (ltb-false desk.fresh shape.slots full) (eqb-true (length desk.retired) 0 none) done)
-      (λ _. has.searches call rows))
+  settled_has shown has call rows done = search (arith, on_test, has.takes, has.none, ltb-false, eqb-true, has.searches)
 
   module _ (word : ℕ) (has : OfOutcomes shape desk (ShownBy shape word) P) where
     replaces : (k : ℕ) (rows : List Row) → is_filled word ≡ true
@@ -199,14 +195,7 @@ module _ (shape : Shape) (desk : Desk) (counts : NoSlot) where
       → IsWithout counts (polled shape desk call rows p found)
       → NoneLeft shape desk (polled shape desk call rows p found) counts × (length desk.retired ≤ p + 1)
       × (same_count found (retired_at desk p).arrivals ≡ false)
-  polled_none call rows p found =
-      let Ends : Desk × Step → Type 0
-      = λ o. IsWithout counts o → NoneLeft shape desk o counts × (length desk.retired ≤ p + 1)
-      × (same_count found (retired_at desk p).arrivals ≡ false) in
-      on_test Ends (same_count found (retired_at desk p).arrivals) (λ _ e. absurd (not_going counts e))
-      (λ miss. on_test Ends (nat_lt (p + 1) (length desk.retired)) (λ _ e. absurd (not_going counts e))
-      (λ last e.
-      (record { same = refl; counted = cc }, ltb-false (p + 1) (length desk.retired) last, miss)))
+  polled_none call rows p found = search (arith, on_test, not_going, ltb-false)
 
 -- a read, whose words spell the set at its key
 pub read_none : {shape : Shape} {words : List ℕ} {roles : List Role} {log : List Entry}
