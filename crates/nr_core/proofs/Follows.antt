@@ -68,10 +68,7 @@ told_by_caller state other c = none_of (nat_eq _ c)
 readable_room : (shape : Shape) (index : ℕ) (held : Hold) → if_unreadable index held ≡ None → RoomOf shape held
     → (slot_in held < shape.slots) × (index < slot_room shape)
 readable_room shape index hold.Nothing ok room = absurd (no_some (Some refuse.NotHolding) refuse.NotHolding refl ok)
-readable_room shape index (hold.On slot None) ok room =
-    let g = guard (nat_eq index 0) None refuse.OutOfRange ok in
-    let first : index ≡ 0 = eqb-true index 0 g.0 in
-    (room, omega arith)
+readable_room shape index (hold.On slot None) ok room = search (arith, guard, eqb-true)
 readable_room shape index (hold.On slot (Some size)) ok room =
     let g = guard (nat_le index (2 * size)) None refuse.OutOfRange ok in
     (room.0, omega (arith, leb-true index (2 * size) g.0))

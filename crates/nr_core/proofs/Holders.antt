@@ -91,9 +91,7 @@ module _ {A : Type 0} {role : A → Role} {marks : A → Marks} {callers : List 
     -- it is noted behind other notes
     module _ (notes : List Past) where
       pub since_more : AllSince role marks callers notes → AllSince role marks callers (notes ++ noted one ∷ [])
-      since_more since at old there = ⊎_elim (since at old)
-          (λ (last : (at ≡ length notes) × (noted one ≡ old)). subst (Since role marks callers) last.1 (since_now one))
-          (at_last notes (noted one) old at there)
+      since_more since at old there = search (arith, since_now, at_last)
 
       pub present_more : (earlier : List Past) → NotesPresent role marks callers earlier notes
           → NotesPresent role marks callers earlier (notes ++ noted one ∷ [])

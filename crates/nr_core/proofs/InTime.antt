@@ -3,21 +3,20 @@ use Rattle.std.proofs.Common.{[], List, ap, append-nil, append_assoc, arith, fol
 use Rattle.std.proofs.Common.{sym, ℕ, ⊎_elim, ◌++◌, ◌+◌, ◌*◌, ◌<◌, ◌∙◌, ◌∷◌, ◌≡◌, ◌⊎◌}
 use Rattle.std.proofs.lemmas.List.Sums.{fold-append}
 use Rattle.std.proofs.lemmas.Bool.{ne_eqb}
-use Rattle.std.specs.Prelude.{None, Option, Some, nat_le, nat_lt}
+use Rattle.std.specs.Prelude.{None, Option, Some, nat_le}
 use Rattle.nr_model.specs.Histories.{Entry, entries_of}
 use Rattle.nr_model.specs.Maps.{ask_reply, find_reply}
 use Rattle.nr_model.specs.declared.calls.Call.{Call}
 use Rattle.nr_model.specs.declared.calls.Reply.{Reply}
 use Rattle.nr_model.specs.declared.states.KeyState.{KeyState}
-use Rattle.nr_words.specs.KeyWords.{same_count}
 use Rattle.nr_core.proofs.Choices.{on_test}
 use Rattle.nr_core.proofs.Follows.{told_by_caller}
 use Rattle.nr_core.proofs.Histories.{of-append}
 use Rattle.nr_core.specs.InTime.{BeganAmong, EntriesInTime, TellsOne, TellsOwn, told_by, told_since, under_way}
 use Rattle.nr_core.specs.Laws.{call_in, caller_of_event}
-use Rattle.nr_core.specs.Machine.{found_by, moved, names_held, unless}
+use Rattle.nr_core.specs.Machine.{found_by, moved, unless}
 use Rattle.nr_core.specs.Refusals.{refusal}
-use Rattle.nr_core.specs.States.{Arrive, Ask, Depart, Event, FindAgain, Go, Read, Start, State, hold_of, retired_at}
+use Rattle.nr_core.specs.States.{Arrive, Ask, Depart, Event, FindAgain, Go, Read, Start, State}
 use Rattle.nr_core.specs.Story.{Story, answering, beginning, call_of, ending, ending_at, shown, story_of, tell, told}
 use Rattle.nr_core.specs.Writer.{looked, went}
 use Rattle.nr_core.specs.declared.calls.Refusal.{Refusal}
@@ -46,10 +45,7 @@ module _ (shape : Shape) (desk : Desk) where
   went_on Idle found = inr refl
   went_on (Reading call slot got) found =
       inl (read_has shape desk (λ call. GoesOn (call ∷ [])) on_now call slot (got ++ found ∷ []))
-  went_on (Searching call rows poll) found = inl
-      (on_test (GoesOn (call ∷ [])) (same_count found (retired_at desk poll).arrivals) (λ _. inr (refl, refl))
-      (λ _. on_test (GoesOn (call ∷ [])) (nat_lt (poll + 1) (length desk.retired)) (λ _. inr (refl, refl))
-      (λ _. inl refl)))
+  went_on (Searching call rows poll) found = search (arith, on_test)
   went_on (Putting call rows slot departed index) found = inl
       (on_test (GoesOn (call ∷ [])) (nat_le index (2 * length rows)) (λ _. inr (refl, refl)) (λ _. inl refl))
   went_on other found = inl (inl refl)
@@ -74,10 +70,7 @@ tells_ending_at other step = tells_ending _ step
 tells_own : (state : State) (event : Event) → TellsOwn state event
 tells_own state (Arrive reader at) = tells_answer reader (model.Find at) find_reply (shown state at)
 tells_own state (Ask reader at) = tells_answer reader (model.Ask at) ask_reply (shown state at)
-tells_own state (FindAgain reader at) =
-    on_test (Tells reader (model.Find at ∷ []))
-    (names_held (hold_of state reader) (found_by state (FindAgain reader at)))
-    (λ _. tells_answer reader (model.Find at) find_reply (shown state at)) (λ _. inl refl)
+tells_own state (FindAgain reader at) = search (arith, on_test, tells_answer)
 tells_own state (Start call) =
     tells_ending (call_of call) (looked state.shape state.desk call (found_by state (Start call))).1
 tells_own state Go =
@@ -152,10 +145,7 @@ behind_from (event ∷ later) story =
 since_more : (events : List Event) (event : Event) (story : Story)
     → told_since story (events ++ event ∷ []) ≡ told_since story events ++ told_by (fold tell story events) event
 since_more [] event story = append-nil (told_by story event)
-since_more (first ∷ events) event story =
-    ap (λ rest. told_by story first ++ rest) (since_more events event (tell story first))
-    ∙ sym (append_assoc (told_by story first) (told_since (tell story first) events)
-    (told_by (fold tell (tell story first) events) event))
+since_more (first ∷ events) event story = search (arith, since_more events event (tell story first), append_assoc)
 
 abbrev Began : Shape → List Event → Type 0
 Began shape events = (call : WriterCall) → under_way (story_of shape events) ≡ call ∷ [] → BeganAmong shape events call

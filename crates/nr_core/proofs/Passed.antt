@@ -1,7 +1,6 @@
 -- What is known of the retired slots as their list changes: how often each is there, and that the first were reaped.
-use Rattle.std.proofs.Common.{List, [], Bool, true, false, ap, arith, get_or, length, refl, remove, set, subst, suc}
-use Rattle.std.proofs.Common.{sym, ℕ, ◌++◌, ◌+◌, ◌-◌, ◌<◌, ◌∙◌, ◌∷◌, ◌≡◌, ◌≤◌, slice_index}
-use mathlib.Core.Option.{some}
+use Rattle.std.proofs.Common.{List, [], Bool, true, false, arith, get_or, length, refl, remove, set, subst, suc, ℕ}
+use Rattle.std.proofs.Common.{◌++◌, ◌+◌, ◌-◌, ◌<◌, ◌∷◌, ◌≡◌, ◌≤◌, slice_index}
 use Rattle.std.proofs.lemmas.List.{get_or-set_other, get_or-set_same, length-append}
 use Rattle.std.proofs.lemmas.List.Edits.{get_or-remove_above, get_or-remove_below, length-remove}
 use Rattle.std.proofs.Math.ListN.{get_or-append}
@@ -16,9 +15,7 @@ use Rattle.nr_core.proofs.Sums.{got_at, only-same, term_le, total-append, total-
 pub retired_less : (retired : List Retired) (place : ℕ) (entry : Retired) → place < length retired
     → entry ≡ get_or retired place entry → (slot : ℕ)
     → retirements slot (remove retired place) + only slot entry.slot ≡ retirements slot retired
-retired_less retired place entry inside same slot =
-    total-remove (λ (it : Retired). only slot it.slot) retired place entry
-    (got_at retired place entry inside ∙ ap some (sym same))
+retired_less retired place entry inside same slot = search (arith, total-remove, got_at)
 
 -- a slot that stands at a place
 pub retired_there : (retired : List Retired) (place : ℕ) → place < length retired
@@ -81,17 +78,13 @@ counts_taken slots retired after old new place entry inside here gone same known
 pub counts_put : (slots : ℕ) (retired after : List Retired) (old new : List ℕ) (entry : Retired)
     → after ≡ retired ++ entry ∷ [] → length new ≡ length old → CountsRetirements slots retired old
     → CountsMore entry.slot old new → CountsRetirements slots after new
-counts_put slots retired after old new entry put same known more =
-    counts_more slots retired after old new entry.slot same known more
-    (λ other. let moved = ap (retirements other) put in omega (arith, retired_last retired entry other))
+counts_put slots retired after old new entry put same known more = search (arith, counts_more, retired_last)
 
 -- the first was taken
 pub counts_popped : (slots : ℕ) (retired after : List Retired) (old new : List ℕ) (entry : Retired)
     → retired ≡ entry ∷ after → length new ≡ length old → CountsRetirements slots retired old
     → CountsFewer entry.slot old new → CountsRetirements slots after new
-counts_popped slots retired after old new entry popped same known fewer =
-    counts_fewer slots retired after old new entry.slot same known fewer
-    (λ other. let moved = ap (retirements other) popped in omega arith)
+counts_popped slots retired after old new entry popped same known fewer = search (arith, counts_fewer)
 
 pub reaped_popped : (count : ℕ) (retired after : List Retired) (entry : Retired) (reaped : List Bool)
     → retired ≡ entry ∷ after → AreReaped count retired reaped → AreReaped (count - 1) after reaped

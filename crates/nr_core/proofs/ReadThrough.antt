@@ -64,9 +64,7 @@ module _ (shape : Shape) (words : List ℕ) (roles : List Role) (log : List Entr
   length-got_next = omega (arith, length-append got (get_or words (content shape s (length got)) 0 ∷ []))
 
   pub read_next : got_next ≡ take (suc (length got)) (encode reads.rows)
-  read_next = let size = length-row_words reads.rows in ap (λ (y : ℕ). got ++ y ∷ []) read_word
-      ∙ ap (λ (l : List ℕ). l ++ get_or (encode reads.rows) (length got) 0 ∷ []) reads.part
-      ∙ sym (take-suc (encode reads.rows) (length got) 0 (omega arith))
+  read_next = search (arith, length-row_words, read_word, take-suc)
 
   pub read_first : get_or got_next 0 0 ≡ length reads.rows
   read_first = ap (λ (l : List ℕ). get_or l 0 0) read_next

@@ -6,9 +6,7 @@ use Rattle.std.proofs.Common.{◌⊎◌, ◌-◌}
 use Rattle.std.specs.Prelude.{Some, bit_or, length}
 use lib.ListN.{get_elem?}
 use lib.Seq.{set-get_or}
-use mathlib.Core.Logic.{dite}
 use mathlib.Core.Option.{some}
-use native.Mathlib.Decide.{ℕ_discrete}
 use Rattle.nr_model.specs.Histories.{Entry, is_done}
 use Rattle.nr_model.specs.declared.calls.Reply.{Reply}
 use Rattle.nr_model.specs.declared.rows.Row.{Row}
@@ -47,9 +45,7 @@ use Rattle.nr_model.specs.declared.calls.Reply.TheVariants as reply
 -- words of the keys that name the same after a step: on a key's word, behind the keys, by a load
 pub names_kept : (words : List ℕ) (i x : ℕ) → i < length words → name_number x ≡ name_number (get_or words i 0)
     → (key : ℕ) → name_number (get_or (set words i x) key 0) ≡ name_number (get_or words key 0)
-names_kept words i x l same key = dite (ℕ_discrete key i)
-    (λ e. cc (get_or-set_same words i x 0 l))
-    (λ ne. ap name_number (get_or-set_other words i key x 0 ne))
+names_kept words i x l same key = search (arith, get_or-set_same, get_or-set_other)
 
 pub names_behind : (words : List ℕ) (keys i x : ℕ) → keys ≤ i → (key : ℕ) → key < keys
     → get_or (set words i x) key 0 ≡ get_or words key 0

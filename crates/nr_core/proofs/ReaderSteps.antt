@@ -67,10 +67,7 @@ asked_word shape words w (key.Hole number) t =
 asked_word shape words w (key.Asked number) t =
     sym (ap (λ b. cond b reply.Filled (cond (has_ask w) reply.Waiting (reply.Send (slot_of w))))
     (names_none w t.0) ∙ ap (λ b. cond b reply.Waiting (reply.Send (slot_of w))) (eq-eqb (w % 2) 1 t.1))
-asked_word shape words w (key.Rows number rows) t =
-    sym
-    (ap (λ b. cond b reply.Filled (cond (has_ask w) reply.Waiting (reply.Send (slot_of w))))
-    (names_one w t.0 t.1).0)
+asked_word shape words w (key.Rows number rows) t = search (arith, names_one)
 
 pub asks : AskLaw
 asks shape id reader k near words roles log core there =

@@ -149,9 +149,7 @@ holds-le s other = omega arith
 pub nobody_holds : {shape : Shape} {words : List ℕ} {roles : List Role} {log : List Entry}
     → Core shape words roles log → (slot found arrivals : ℕ)
     → arrivals % 2 ^ 40 ≡ (found + held roles slot) % 2 ^ 40 → same_count found arrivals ≡ true → held roles slot ≡ 0
-nobody_holds {roles = roles} core slot found arrivals count agrees =
-    let hit : found % 2 ^ 40 ≡ arrivals % 2 ^ 40 = eqb-true (found % 2 ^ 40) (arrivals % 2 ^ 40) agrees in
-    omega (arith, total-le (holds slot) is_reader (holds-le slot) roles)
+nobody_holds {roles = roles} core slot found arrivals count agrees = search (arith, eqb-true, total-le, holds-le)
 
 -- where its departures are its arrivals nobody holds a retired slot, and the search may take it
 takes : {shape : Shape} {words : List ℕ} {roles : List Role} {log : List Entry} (core : Core shape words roles log)

@@ -30,16 +30,7 @@ stands-more : (qs rs : List ℕ) (q : ℕ)
     → (how_often q qs ≡ 0 → total (stands (q ∷ qs)) rs ≡ total (stands qs) rs + how_often q rs)
     × (0 < how_often q qs → total (stands (q ∷ qs)) rs ≡ total (stands qs) rs)
 stands-more qs [] q = (λ _. refl, λ _. refl)
-stands-more qs (r ∷ rs) q = let t = stands-more qs rs q in dite (ℕ_discrete r q)
-    (λ e.
-    let same = ap (λ (y : ℕ). how_often y qs) e in
-    let one = ap (only q) e ∙ only-same q in
-    let one' = ap (λ (y : ℕ). only y q) e ∙ only-same q in
-    (λ new. omega arith, λ old. omega arith))
-    (λ ne.
-    let none = only-other q r ne in
-    let none' = only-other r q (λ e. ne (sym e)) in
-    (λ new. omega arith, λ old. omega arith))
+stands-more qs (r ∷ rs) q = search (arith, stands-more qs rs q, only-same, only-other)
 
 -- the strays are the retired put numbers that are pinned
 strays_are : (keys rs qs : List ℕ) → ((q : ℕ) → how_often q keys + how_often q rs ≤ 1)
@@ -144,9 +135,7 @@ module _ (retired : List Retired) (marks : Marks) (next : ℕ) (readers : List P
 
   -- there are never more strays than retired slots
   pub strays_most : strays (named_puts marks.puts marks.names) (pins readers) ≤ length retired
-  strays_most =
-      let c = length-retired_puts marks.puts retired in
-      omega (arith, counted, some_stand (pins readers) (retired_puts marks.puts retired))
+  strays_most = search (arith, length-retired_puts, counted, some_stand)
 
   -- a sweep found every retired slot held by a reader that has not moved since: each retired set is pinned
   pub all_strays : AllHeld retired marks.polls → Still marks.polls readers

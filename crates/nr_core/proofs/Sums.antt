@@ -154,13 +154,7 @@ module _ {A : Type 0} where
 
 pub below-only : (x n : ℕ) → (x < n → below (λ c. only c x) n ≡ 1) × (n ≤ x → below (λ c. only c x) n ≡ 0)
 below-only x zero = ((λ h. absurd (omega arith)), λ _. refl)
-below-only x (suc n) = let before = below-only x n in dite (ℕ_discrete x n)
-    (λ e.
-    let one : only n x ≡ 1 = ap (only n) e ∙ only-same n in
-    ((λ h. omega (arith, before.1 (omega arith))), λ h. absurd (omega arith)))
-    (λ ne.
-    let none = only-other n x ne in
-    ((λ h. omega (arith, before.0 (omega arith))), λ h. omega (arith, before.1 (omega arith))))
+below-only x (suc n) = search (arith, below-only x n, only-same, only-other)
 
 pub below-first : (f : ℕ → ℕ) (n : ℕ) → below f (suc n) ≡ f 0 + below (λ k. f (suc k)) n
 below-first f zero = omega arith

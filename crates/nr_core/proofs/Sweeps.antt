@@ -8,8 +8,6 @@ use Rattle.std.proofs.Common.{ℕ, ◌%◌, ◌*◌, ◌++◌, ◌+◌, ◌-◌,
 use Rattle.std.proofs.lemmas.Bool.{eqb-false, eqb-true}
 use Rattle.std.proofs.lemmas.List.{drop_more, length-append, map-append, take_more}
 use Rattle.std.specs.Prelude.{None, nat_le, nat_lt}
-use mathlib.Core.Logic.{dite}
-use native.Mathlib.Decide.{ℕ_discrete}
 use Rattle.nr_model.specs.Histories.{Entry}
 use Rattle.nr_model.specs.Maps.{state_of}
 use Rattle.nr_words.specs.KeyWords.{is_filled, same_count, slot_of}
@@ -81,16 +79,8 @@ polled_clear : (entry : Retired) (later : List Retired) (holds : List Hold) → 
     → total (clear_of (entry ∷ later)) holds + total (on entry.slot) holds ≤ total (clear_of later) holds
 polled_clear entry later [] once = omega arith
 polled_clear entry later (hold.Nothing ∷ holds) once = omega (arith, polled_clear entry later holds once)
-polled_clear entry later (hold.On slot size ∷ holds) once = let more = polled_clear entry later holds once in
-    dite (ℕ_discrete slot entry.slot)
-    (λ e. omega (
-      arith,
-      ap (λ (s : ℕ). retirements s later) e,
-      ap (λ (s : ℕ). only s entry.slot) e,
-      only-same entry.slot,
-      only-le entry.slot slot,
-    ))
-    (λ ne. omega (arith, only-other entry.slot slot ne))
+polled_clear entry later (hold.On slot size ∷ holds) once =
+    search (arith, polled_clear entry later holds once, only-same, only-le, only-other)
 
 -- a slot that a key names is not retired
 named_not_retired : (state : State) (log : List Entry) → IsCoreState state log → (key slot : ℕ)

@@ -127,9 +127,7 @@ module _ {A : Type 0} (role : A → Role) (marks : A → Marks) (shape : Shape) 
   there = at_maps role callers id me at ∙ ap some was
 
   name_at : (i n : ℕ) → get_elem? (marks me).names i ≡ some n → (i < shape.keys) × (name_number (get_or words i 0) ≡ n)
-  name_at i n e =
-      let near : i < shape.keys = omega (arith, inside (marks me).names i n e) in
-      (near, sym (own.names i near) ∙ at_or (marks me).names i n e)
+  name_at i n e = search (arith, inside, at_or)
 
   by_name : (i s : ℕ) → i < shape.keys → name_number (get_or words i 0) ≡ suc s
       → (s < shape.slots) × (0 < lives shape words desk s)

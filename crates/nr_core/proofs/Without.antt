@@ -3,8 +3,8 @@
 use Rattle.std.proofs.Common.{List, ap, false, length, nat_eq, refl, sym, ℕ, ◌+◌, ◌-◌, ◌∙◌, ◌≡◌, [], get_or, ◌≤◌, subst}
 use Rattle.std.proofs.Common.{◌*◌, ◌++◌, ◌∷◌, arith, cond, true, ◌%◌}
 use Rattle.std.proofs.lemmas.Bool.{eqb-true, ltb-false}
-use Rattle.std.specs.Prelude.{nat_lt, Option, Err, None, Ok, Result, Some}
-use Rattle.nr_model.specs.Maps.{reply_at, state_of, applied_reply, last_number}
+use Rattle.std.specs.Prelude.{Option, Err, None, Ok, Result, Some}
+use Rattle.nr_model.specs.Maps.{reply_at, state_of, applied_reply}
 use Rattle.nr_model.specs.declared.calls.Reply.{Reply}
 use Rattle.nr_model.specs.declared.rows.Row.{Row}
 use Rattle.nr_model.specs.declared.states.KeyState.{KeyState}
@@ -94,28 +94,11 @@ module _ (shape : Shape) (desk : Desk) (P : WriterCall → Desk × Step → Type
         absurd (unfilled word (names_one word shows.1.0 shows.1.1).0 empty)
 
     pub looked_has : (call : WriterCall) → P call (looked shape desk call word)
-    looked_has (Replace k rows) =
-        let call = Replace k rows in
-        on_test (P call) (is_filled word)
-        (λ filled. settled_has (ShownBy shape word) has call rows (replaces k rows filled))
-        (λ _. has.replies call reply.Dropped refl)
+    looked_has (Replace k rows) = search (arith, on_test, settled_has, replaces)
     looked_has (Evict k) =
         on_test (P (Evict k)) (is_filled word) (λ _. has.leaves k) (λ _. has.replies (Evict k) reply.Nothing refl)
-    looked_has (Fill k number rows) =
-        let call = Fill k number rows in
-        on_test (P call) (is_filled word) (λ _. has.replies call reply.Already refl)
-        (λ empty. on_test (P call) (has_ask word)
-        (λ asked. on_test (P call) (nat_eq (slot_of word) number)
-        (λ own. settled_has (ShownBy shape word) has call rows (fills k number rows empty asked own))
-        (λ _. has.replies call reply.Stale refl))
-        (λ _. has.replies call reply.NotAsked refl))
-    looked_has (Cancel k) =
-        let call = Cancel k in
-        on_test (P call) (is_filled word) (λ _. has.replies call reply.Nothing refl)
-        (λ _. on_test (P call) (has_ask word)
-        (λ _. on_test (P call) (nat_lt (slot_of word) last_number) (λ _. has.withdraws k)
-        (λ _. has.replies call reply.Worn refl))
-        (λ _. has.replies call reply.Nothing refl))
+    looked_has (Fill k number rows) = search (arith, on_test, settled_has, fills)
+    looked_has (Cancel k) = search (arith, on_test)
     looked_has call =
         on_test (P call) (is_filled word) (λ _. has.reads call (slot_of word) []) (λ _. has.replies call _ refl)
 
@@ -177,18 +160,14 @@ module _ (shape : Shape) (desk : Desk) (counts : NoSlot) where
       × (length desk.retired ≡ 0)
       × ((state : KeyState) (words : List ℕ) → ShowsState shape words w state
       → reply_at (bound_of shape) (call_of call) state ≡ reply.Done)
-  look_none call w e =
-      let n = looked_has shape desk (EndsInVain (ShownBy shape w)) w (in_vain (ShownBy shape w)) call e in
-      (n.0, n.1, n.2, λ state words shows. n.3 state (words, shows))
+  look_none call w e = search (arith, looked_has, in_vain)
 
   -- a last read ends so where an update has a new set
   pub decided_none : (call : WriterCall) (rows : List Row) → IsWithout counts (decided shape desk call rows)
       → NoneLeft shape desk (decided shape desk call rows) counts × (shape.slots ≤ desk.fresh)
       × (length desk.retired ≡ 0)
       × ((number : ℕ) → reply_at (bound_of shape) (call_of call) (key.Rows number rows) ≡ reply.Done)
-  decided_none call rows e =
-      let n = decided_has shape desk (EndsInVain (OfSet rows)) rows (in_vain (OfSet rows)) call e in
-      (n.0, n.1, n.2, λ number. n.3 (key.Rows number rows) (number, refl))
+  decided_none call rows e = search (arith, decided_has, in_vain)
 
   -- the last poll of a search
   pub polled_none : (call : WriterCall) (rows : List Row) (p found : ℕ)
