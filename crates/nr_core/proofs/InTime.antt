@@ -1,6 +1,6 @@
 -- Each entry is told between its call's first step and its last.
 use Rattle.std.proofs.Common.{[], List, ap, append-nil, append_assoc, arith, fold, inl, inr, length, map, refl, subst}
-use Rattle.std.proofs.Common.{sym, ℕ, ⊎_elim, ◌++◌, ◌+◌, ◌*◌, ◌<◌, ◌∙◌, ◌∷◌, ◌≡◌, ◌⊎◌}
+use Rattle.std.proofs.Common.{sym, ℕ, ⊎_elim, ◌++◌, ◌*◌, ◌<◌, ◌∙◌, ◌∷◌, ◌≡◌, ◌⊎◌}
 use Rattle.std.proofs.lemmas.List.Sums.{fold-append}
 use Rattle.std.proofs.lemmas.Bool.{ne_eqb}
 use Rattle.std.specs.Prelude.{None, Option, Some, nat_le}
