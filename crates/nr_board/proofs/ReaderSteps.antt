@@ -14,13 +14,9 @@ use Rattle.nr_model.specs.declared.calls.Reply.TheVariants as reply
 use Rattle.nr_words.specs.KeyWords.{is_filled}
 use Rattle.nr_words.specs.SetWords.{encode}
 use Rattle.nr_words.specs.declared.key_words.TheConstants.{ARRIVE}
-use Rattle.nr_core.proofs.Arrive.{arrives}
-use Rattle.nr_core.proofs.Ask.{asks}
+use Rattle.nr_core.proofs.ReaderSteps.{arrives, asks, departs, finds_again, reads}
 use Rattle.nr_core.proofs.Choices.{by_cases, on_test}
-use Rattle.nr_core.proofs.Depart.{departs}
-use Rattle.nr_core.proofs.FindAgain.{finds_again}
 use Rattle.nr_core.proofs.KeyWords.{names_none, names_one}
-use Rattle.nr_core.proofs.Read.{reads}
 use Rattle.nr_core.specs.Roles.{holds, is_by, is_reader, is_writer}
 use Rattle.nr_core.specs.declared.operation.Operation.{Operation}
 use Rattle.nr_core.specs.declared.operation.Operation.TheVariants.{Add, Load, Or}
@@ -32,7 +28,7 @@ use Rattle.nr_core.specs.declared.roles.Grip.TheVariants.{Nothing, On}
 use Rattle.nr_core.specs.declared.roles.Role.{Role}
 use Rattle.nr_core.specs.declared.roles.Role.TheVariants.{Reader}
 use Rattle.nr_core.specs.declared.shape.Shape.{Shape}
-use Rattle.nr_core.proofs.FindAgainMarks.{finds_again_marked}
+use Rattle.nr_core.proofs.LearnMarks.{finds_again_marked}
 use Rattle.nr_core.proofs.ReaderMarks.{arrives_marked, asks_marked, departs_marked, reads_marked}
 use Rattle.nr_core.specs.MarkSteps.{ArrivesMarks, DepartsMarks, FindsAgainMarks, KeepsMarks, found_again}
 use Rattle.nr_board.proofs.Learning.{shows_kind}

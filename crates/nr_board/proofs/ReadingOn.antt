@@ -20,7 +20,7 @@ use Rattle.nr_model.specs.declared.rows.Row.{Row}
 use Rattle.nr_model.specs.declared.states.KeyState.TheVariants as states
 use Rattle.nr_words.specs.SetWords.{encode}
 use Rattle.nr_core.proofs.Histories.{state_same}
-use Rattle.nr_core.proofs.Sets.{set_back}
+use Rattle.nr_core.proofs.ReadThrough.{set_back}
 use Rattle.nr_core.specs.Slots.{content, bound_of}
 use Rattle.nr_core.specs.States.{key_of}
 use Rattle.nr_core.specs.Story.{call_of, ending, entry, map_after}

@@ -18,7 +18,7 @@ use Rattle.nr_words.specs.KeyWords.{same_count}
 use Rattle.nr_core.proofs.Choices.{by_cases, on_test}
 use Rattle.nr_core.proofs.Counting.{slots_are}
 use Rattle.nr_core.proofs.Learn.{learns}
-use Rattle.nr_core.proofs.Poll.{gives_up, tries}
+use Rattle.nr_core.proofs.Settle.{gives_up, tries}
 use Rattle.nr_core.proofs.Sums.{got_at}
 use Rattle.nr_core.specs.Core.{AtPlace}
 use Rattle.nr_core.specs.Roles.{grips, held, holds, is_by, is_reader, is_writer, taken}

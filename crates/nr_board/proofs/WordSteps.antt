@@ -14,8 +14,7 @@ use Rattle.nr_model.specs.declared.calls.Reply.TheVariants as reply
 use Rattle.nr_model.specs.declared.rows.Row.{Row}
 use Rattle.nr_words.specs.KeyWords.{is_filled}
 use Rattle.nr_core.proofs.Choices.{by_cases, on_test}
-use Rattle.nr_core.proofs.Depart.{departs}
-use Rattle.nr_core.proofs.HoldNamed.{holds_named, looks_up}
+use Rattle.nr_core.proofs.ReaderSteps.{departs, holds_named, looks_up}
 use Rattle.nr_core.proofs.Learn.{learns}
 use Rattle.nr_core.proofs.Sums.{only-is, only-other, only-same, total-set}
 use Rattle.nr_core.specs.Roles.{holds, is_by, is_reader, is_writer}
@@ -29,10 +28,9 @@ use Rattle.nr_core.specs.declared.roles.Grip.TheVariants.{Nothing}
 use Rattle.nr_core.specs.declared.roles.Role.{Role}
 use Rattle.nr_core.specs.declared.roles.Role.TheVariants.{Note, Reader, Writer}
 use Rattle.nr_core.specs.declared.shape.Shape.{Shape}
-use Rattle.nr_core.proofs.HoldNamedMarks.{holds_named_marked, looks_up_marked}
+use Rattle.nr_core.proofs.ReaderMarks.{holds_named_marked, looks_up_marked, departs_marked}
 use Rattle.nr_core.proofs.LearnMarks.{learns_reader}
 use Rattle.nr_core.proofs.ListPlaces.{no_places}
-use Rattle.nr_core.proofs.ReaderMarks.{departs_marked}
 use Rattle.nr_core.specs.Marked.{MarkTelling, Remarked, Since}
 use Rattle.nr_core.specs.MarkSteps.{DepartsMarks, HoldsNamedMarks, LooksUpMarks, ReaderLearns}
 use Rattle.nr_core.specs.Marks.{Marks, acted, with_look}

@@ -11,8 +11,7 @@ use Rattle.nr_model.specs.Maps.{call_key, state_of}
 use Rattle.nr_model.specs.declared.rows.Row.{Row}
 use Rattle.nr_model.specs.declared.calls.Call.{Call}
 use Rattle.nr_words.specs.SetWords.{encode}
-use Rattle.nr_core.proofs.Go.{goes}
-use Rattle.nr_core.proofs.Look.{looks}
+use Rattle.nr_core.proofs.WriterSteps.{goes, looks}
 use Rattle.nr_core.proofs.ReadThrough.{read_next, read_set}
 use Rattle.nr_core.proofs.Guards.{no_some}
 use Rattle.nr_core.proofs.Settle.{key_same}

@@ -34,13 +34,7 @@ use Rattle.nr_model.specs.declared.states.KeyState.TheVariants as key
 count_below : {A : Type 0} (p : A → Bool) (d : A) (l : List A)
     → count_by p l ≡ below (λ k. cond (p (get_or l k d)) 1 0) (length l)
 count_below p d [] = refl
-count_below p d (x ∷ l) =
-    omega (
-      arith,
-      count_below p d l,
-      below-first (λ k. cond {A = ℕ} (p (get_or (x ∷ l) k d)) 1 0) (length l),
-      count_by-cons p x l,
-    )
+count_below p d (x ∷ l) = search (arith, count_below p d l, below-first, count_by-cons)
 
 -- the slots below n that were never taken
 unused_below : (fresh n : ℕ) → fresh ≤ n → below (λ slot. unused slot fresh) n + fresh ≡ n

@@ -1,6 +1,6 @@
 -- Every event keeps the core state of a story, the readers' (ReaderEvents) and the writer's, and so does a list of
 -- events.
-use Rattle.std.proofs.Common.{List, [], append-nil, refl, subst, sym, ◌++◌, ◌∙◌, ◌∷◌, ◌≡◌, get_or, set}
+use Rattle.std.proofs.Common.{List, [], append-nil, refl, subst, sym, ◌++◌, ◌∙◌, ◌∷◌, ◌≡◌, get_or}
 use Rattle.std.specs.Prelude.{None, Option, Some, fold}
 use Rattle.nr_model.specs.Histories.{Entry}
 use Rattle.nr_core.proofs.Opening.{opening_core}
@@ -16,14 +16,12 @@ use Rattle.nr_core.specs.Story.{Story, beginning, story_of, tell, told, call_of,
 use Rattle.nr_core.specs.declared.calls.Refusal.{Refusal}
 use Rattle.nr_core.specs.declared.shape.Shape.{Shape}
 use Rattle.nr_core.proofs.Stepping.{core_after}
-use Rattle.nr_core.proofs.Go.{goes, own_ending_at}
+use Rattle.nr_core.proofs.WriterSteps.{goes, own_ending_at, looks}
 use Rattle.nr_core.proofs.Guards.{is_idle, at_key}
-use Rattle.nr_core.proofs.Look.{looks}
 use Rattle.nr_core.specs.Given.{IsGivenCall}
 use Rattle.nr_core.specs.Operations.{going, target_of}
 use Rattle.nr_core.specs.Writer.{looked, went}
 use Rattle.nr_core.specs.declared.calls.WriterCall.{WriterCall}
-use Rattle.nr_core.specs.declared.roles.Role.TheVariants.{Writer}
 use Rattle.nr_core.proofs.Settle.{own_ending}
 
 pub after_start : (state : State) (log : List Entry) (call : WriterCall) → IsGivenCall (bound_of state.shape) call
@@ -39,12 +37,8 @@ after_start state log call given is_core ok =
     let step
     = looks shape 0 state.desk call (is_idle state.desk.place at.1) given at.0
     words roles log is_core.core f.writer in
-    record {
-      roles = set roles 0 (Writer o.0);
-      core = core_after step step.told.0 step.told.1;
-      fit = fit_writer shape.readers roles state.holds state.desk o.0 f;
-      found = found_writer roles log (ending (call_of call) o.1) o.0 is_core.found (own_ending (call_of call) o.1);
-    }
+    let found = found_writer roles log (ending (call_of call) o.1) o.0 is_core.found (own_ending (call_of call) o.1) in
+    search (core_after step step.told.0 step.told.1, fit_writer shape.readers roles state.holds state.desk o.0 f, found)
 
 pub after_go : (state : State) (log : List Entry) → IsCoreState state log → refusal state Go ≡ None
     → IsCoreState (moved state Go) (log ++ told state Go)
@@ -55,12 +49,9 @@ after_go state log is_core ok =
     let f = is_core.fit in
     let desk = state.desk in
     let o = went shape desk desk.place (get_or words (target_of (going shape desk desk.place)) 0) in
-    let step = goes shape 0 desk ok words roles log is_core.core f.writer in record {
-      roles = set roles 0 (Writer o.0);
-      core = core_after step step.told.0 step.told.1;
-      fit = fit_writer shape.readers roles state.holds desk o.0 f;
-      found = found_writer roles log (ending_at desk.place o.1) o.0 is_core.found (own_ending_at desk.place o.1);
-    }
+    let step = goes shape 0 desk ok words roles log is_core.core f.writer in
+    let found = found_writer roles log (ending_at desk.place o.1) o.0 is_core.found (own_ending_at desk.place o.1) in
+    search (core_after step step.told.0 step.told.1, fit_writer shape.readers roles state.holds desk o.0 f, found)
 
 pub after_event : (state : State) (log : List Entry) (event : Event) → IsGiven (bound_of state.shape) event
     → IsCoreState state log → refusal state event ≡ None → IsCoreState (moved state event) (log ++ told state event)

@@ -1,7 +1,7 @@
 -- The exact place of a no-slot, for a caller that has all tokens in one hand and gathers every reader after each call.
 use Rattle.std.proofs.Common.{List, [], ap, arith, get_or, subst, sym, ℕ, ⊎_elim, ◌<◌, ◌∙◌, ◌≡◌, ◌≤◌}
 use lib.ListN.{get_elem?}
-use mathlib.Core.Option.{some, some-ne-none}
+use mathlib.Core.Option.{some}
 use Rattle.nr_core.proofs.Sums.{at_snoc}
 use Rattle.nr_core.specs.declared.roles.Grip.{Grip}
 use Rattle.nr_core.specs.declared.places.Retired.{Retired}
@@ -12,16 +12,12 @@ use Rattle.nr_core.specs.PollNotes.{Missed, Noted}
 use Rattle.nr_core.specs.Pasts.{AllKnown, Compared, Current, Refreshed}
 use Rattle.nr_core.specs.Exact.{pins}
 use Rattle.nr_core.specs.MarkLaws.{DoneByMarks, NoSlotByMarks}
-use Rattle.nr_core.proofs.ByHistory.{strays_by_history}
+use Rattle.nr_core.proofs.Tidy.{strays_by_history}
 use Rattle.nr_core.proofs.Strays.{Still, all_strays, one_not_stray, strays_most}
 
 -- the polls of a call, from its look on
 pub noted_none : (shape : Shape) (known : List Past) → Noted shape known []
-noted_none shape known =
-    record {
-      newer = λ at place poll old e. absurd (some-ne-none poll (sym e));
-      range = λ at poll e. absurd (some-ne-none poll (sym e));
-    }
+noted_none shape known = search arith
 
 pub noted_more : (shape : Shape) (known polls : List Past) (slot : ℕ) (now : List Past) → Noted shape known polls
     → Missed shape known polls slot now → Noted shape known now

@@ -10,13 +10,12 @@ use Rattle.nr_model.specs.declared.calls.Reply.{Reply}
 use Rattle.nr_model.specs.declared.states.KeyState.{KeyState}
 use Rattle.nr_core.proofs.Choices.{on_test}
 use Rattle.nr_core.proofs.Frames.{stands_at}
-use Rattle.nr_core.proofs.Go.{own_ending_at}
+use Rattle.nr_core.proofs.WriterSteps.{own_ending_at}
 use Rattle.nr_core.proofs.Guards.{guard, no_some, at_key, at_reader, at_reader_key}
 use Rattle.nr_core.proofs.Histories.{of-append}
-use Rattle.nr_core.proofs.OffKeys.{none_of}
-use Rattle.nr_core.proofs.Reach.{hold_room, place_room}
+use Rattle.nr_core.proofs.OnKey.{none_of}
+use Rattle.nr_core.proofs.Reach.{hold_room, place_room, holder}
 use Rattle.nr_core.proofs.Settle.{own_ending}
-use Rattle.nr_core.proofs.Stands.{holder}
 use Rattle.nr_core.proofs.StateRoles.{IsCoreState}
 use Rattle.nr_core.proofs.WordPlaces.{content_apart, content_inside, departures_inside, same_content}
 use Rattle.nr_core.specs.Laws.{EndsWithout, Follows, IsJustified, caller_of_event}
@@ -69,10 +68,7 @@ told_by_caller state other c = none_of (nat_eq _ c)
 readable_room : (shape : Shape) (index : ℕ) (held : Hold) → if_unreadable index held ≡ None → RoomOf shape held
     → (slot_in held < shape.slots) × (index < slot_room shape)
 readable_room shape index hold.Nothing ok room = absurd (no_some (Some refuse.NotHolding) refuse.NotHolding refl ok)
-readable_room shape index (hold.On slot None) ok room =
-    let g = guard (nat_eq index 0) None refuse.OutOfRange ok in
-    let first : index ≡ 0 = eqb-true index 0 g.0 in
-    (room, omega arith)
+readable_room shape index (hold.On slot None) ok room = search (arith, guard, eqb-true)
 readable_room shape index (hold.On slot (Some size)) ok room =
     let g = guard (nat_le index (2 * size)) None refuse.OutOfRange ok in
     (room.0, omega (arith, leb-true index (2 * size) g.0))

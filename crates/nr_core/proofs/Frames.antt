@@ -12,7 +12,7 @@ use Rattle.nr_core.specs.Core.{AreNumbers, AtDesk, AtPlace, Core, Knows, Grips, 
 use Rattle.nr_core.specs.Roles.{grips, keeps, taken, held, is_reader, is_writer}
 use Rattle.nr_core.specs.Slots.{SlotSpells, bound_of, content, departures, name_number, unused}
 use Rattle.nr_core.specs.States.{key_of}
-use Rattle.nr_core.specs.Story.{call_of, map_after, opening_map}
+use Rattle.nr_core.specs.Story.{map_after, opening_map}
 use Rattle.nr_core.specs.Sums.{only, total}
 use Rattle.nr_core.specs.declared.calls.WriterCall.{WriterCall}
 use Rattle.nr_core.specs.declared.places.Place.{Place}
@@ -104,21 +104,13 @@ module _ (shape : Shape) where
         → (hold s ≡ 0) × (get_or words (departures shape s) 0 ≡ shape.first_count))
         → (s : ℕ) → fresh ≤ s → s < shape.slots
         → (hold' s ≡ 0) × (get_or words' (departures shape s) 0 ≡ shape.first_count)
-    free_more fresh left t s from near =
-        let f = t s from near in
-        let l = left s near from in
-        (l.nobody f.0, l.deps f.0 ∙ f.1)
+    free_more fresh left t s from near = search arith
 
     module _ (names : (k : ℕ) → k < shape.keys → name_number (get_or words' k 0) ≡ name_number (get_or words k 0))
         (stays : (k : ℕ) → ((number : ℕ) → state_of m k ≡ key.Hole number → ⊥) → state_of m' k ≡ state_of m k) where
       pub wants_more : (call : WriterCall) (rows : List Row) → Wants shape words m hold call rows
           → Wants shape words' m' hold' call rows
-      wants_more call rows t = let same = stays (key_of call) t.no_hole in assumption (
-        λ (number : ℕ) (e : state_of m' (key_of call) ≡ key.Hole number). t.no_hole number (sym same ∙ e),
-        ap (reply_at (bound_of shape) (call_of call)) same ∙ t.done,
-        ap (state_after (bound_of shape) (call_of call)) same ∙ t.leaves
-            ∙ ap (λ (z : KeyState). key.Rows (number_of z) rows) (sym same),
-      )
+      wants_more call rows t = search (arith, t.no_hole, t.done, t.leaves)
 
       pub reads_more : (k s : ℕ) (got : List ℕ) → Reads shape words m hold k s got → Reads shape words' m' hold' k s got
       reads_more k s got t =
@@ -148,16 +140,13 @@ module _ (shape : Shape) where
       pub desk_more : (desk : Desk) → ((k : ℕ) → number_of (state_of m' k) ≡ number_of (state_of m k))
           → ((s : ℕ) → s < shape.slots → 0 < keeps s (Writer desk) → Left s) → AtDesk shape words m hold desk
           → AtDesk shape words' m' hold' desk
-      desk_more desk same_number left t = record {
-        place =
-            place_more desk.fresh desk.retired desk.place (λ s in_range mine. left s in_range (omega arith)) t.place;
-        room = t.room;
-        free =
-            free_more desk.fresh (λ s near from. let u = unused-free s desk.fresh from in left s near (omega arith))
-            t.free;
-        retired = retired_more desk.retired (λ s near mine. left s near (omega arith)) t.retired;
-        numbers = numbers_more shape m m' desk.numbers (λ k _. same_number k) t.numbers;
-      }
+      desk_more desk same_number left t = search (
+        place_more desk.fresh desk.retired desk.place (λ s in_range mine. left s in_range (omega arith)) t.place,
+        free_more desk.fresh (λ s near from. let u = unused-free s desk.fresh from in left s near (omega arith)) t.free,
+        retired_more desk.retired (λ s near mine. left s near (omega arith)) t.retired,
+        numbers_more shape m m' desk.numbers (λ k _. same_number k) t.numbers,
+        t,
+      )
 
       -- what any caller knows
       pub knows_more : (u : Role) → ((k : ℕ) → number_of (state_of m' k) ≡ number_of (state_of m k))
@@ -185,18 +174,9 @@ pub roles_more : {shape : Shape} {words : List ℕ} {roles : List Role} {log : L
     → ((id : ℕ) (role : Role) → get_elem? roles' id ≡ some role
     → Knows shape words (map_after shape log) (held roles) role)
     → Core shape words roles' log
-roles_more {shape} {words} {roles} {log} core roles' still keeping one few knows = record {
-  fits = core.fits;
-  wide = core.wide;
-  legal = core.legal;
-  shows = core.shows;
-  places = λ s near. omega (arith, core.places s near, keeping s near);
-  counts = λ k s near names. rw (still s) (core.counts k s near names);
-  knows = λ id role there. subst (λ (hold : ℕ → ℕ). Knows shape words (map_after shape log) hold role)
-      (λ j s. sym (still s) j) (knows id role there);
-  one = one;
-  few = few;
-}
+roles_more {roles} core roles' still keeping one few knows =
+    let same : held roles' ≡ held roles = λ j s. still s j in
+    search (arith, core.shows, core.places, core.counts, keeping, knows, same, still)
 
 -- an entry that leaves its key's state
 pub entry_more : {shape : Shape} {words : List ℕ} {roles : List Role} {log : List Entry} → Core shape words roles log
@@ -211,14 +191,5 @@ entry_more {shape} {log = log} core e replies stays =
     ∙ ap (set map.states k) stays ∙ set-get_or map.states k (key.Hole 0) in
     let same : map_after shape (log ++ e ∷ []) ≡ map
     = now-more shape log e ∙ ap (λ (states : List KeyState). record { bound = map.bound; states = states }) kept in
-    record {
-      fits = core.fits;
-      wide = core.wide;
-      legal = legal-more shape log e core.legal (replies ∙ sym (replies_so shape log e.call));
-      shows = λ at near. rw same (core.shows at near);
-      places = core.places;
-      counts = core.counts;
-      knows = λ id role there. rw same (core.knows id role there);
-      one = core.one;
-      few = core.few;
-    }
+    let legal = legal-more shape log e core.legal (replies ∙ sym (replies_so shape log e.call)) in
+    search (legal, same, core.shows, core.knows, core)

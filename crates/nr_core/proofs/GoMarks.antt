@@ -24,10 +24,9 @@ use Rattle.nr_core.proofs.Guards.{no_some}
 use Rattle.nr_core.specs.Marks.{Marks, Past}
 use Rattle.nr_core.specs.Marked.{CanMark}
 use Rattle.nr_core.specs.MarkSteps.{GoesMarks, PollsNext, PutsMarks, went_marks}
-use Rattle.nr_core.proofs.PollMarks.{polls_marked}
+use Rattle.nr_core.proofs.SearchMarks.{polls_marked}
 use Rattle.nr_core.proofs.SwapMarks.{publishes_marked, puts_marked, unpublishes_marked, withdraws_marked}
-use Rattle.nr_core.proofs.DeskMarks.{Went}
-use Rattle.nr_core.proofs.LookMarks.{reads_on_marked}
+use Rattle.nr_core.proofs.LookMarks.{Went, reads_on_marked}
 use Rattle.std.proofs.lemmas.Bool.{leb-true, leb-false}
 use Rattle.nr_model.specs.declared.calls.Reply.TheVariants as reply
 

@@ -42,11 +42,7 @@ bound-after (e ∷ es) m = bound-after es (next m e.call)
 pub state_same : (shape : Shape) (log : List Entry) (e : Entry) → call_key e.call < shape.keys
     → state_of (map_after shape (log ++ e ∷ []))
     (call_key e.call) ≡ state_after (bound_of shape) e.call (state_of (map_after shape log) (call_key e.call))
-state_same shape log e near =
-    ap (λ m. state_of m (call_key e.call)) (now-more shape log e)
-    ∙ state_of-next_same (map_after shape log) e.call (omega (arith, length-now shape log))
-    ∙ ap (λ b. state_after b e.call (state_of (map_after shape log) (call_key e.call)))
-    (bound-after log (opening_map shape))
+state_same shape log e near = search (arith, e.call, now-more, state_of-next_same, length-now, bound-after)
 
 pub state_other : (shape : Shape) (log : List Entry) (e : Entry) (j : ℕ) → j ≢ call_key e.call
     → state_of (map_after shape (log ++ e ∷ [])) j ≡ state_of (map_after shape log) j

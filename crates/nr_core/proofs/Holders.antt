@@ -1,6 +1,6 @@
 -- A poll that finds its slot held: a reader holds it, and is noted as it is.
-use Rattle.std.proofs.Common.{[], List, ap, arith, inr, length, map, false, refl, subst, sym, ℕ, ⊎_elim, ◌%◌, ◌++◌, ◌+◌}
-use Rattle.std.proofs.Common.{◌<◌, ◌^◌, ◌∙◌, ◌∷◌, ◌≡◌, ◌≢◌, ◌≤◌}
+use Rattle.std.proofs.Common.{[], List, ap, arith, length, map, false, refl, subst, sym, ℕ, ⊎_elim, ◌%◌, ◌++◌, ◌+◌, ◌<◌}
+use Rattle.std.proofs.Common.{◌^◌, ◌∙◌, ◌∷◌, ◌≡◌, ◌≢◌, ◌≤◌}
 use Rattle.std.proofs.lemmas.Bool.{eqb-false}
 use Rattle.std.specs.Prelude.{Some}
 use lib.ListN.{get_elem?}
@@ -11,8 +11,7 @@ use Rattle.nr_model.specs.Histories.{Entry}
 use Rattle.nr_words.specs.KeyWords.{same_count}
 use Rattle.nr_core.proofs.ListPlaces.{at_last, at_maps, at_unmap}
 use Rattle.nr_core.proofs.Sums.{only-is, only-same, some_term, terms_le}
-use Rattle.nr_core.specs.Marked.{AllSince, HoldNoOthers, IsPresent, KnowsMarks, Marked, NotesPresent, Once, Since}
-use Rattle.nr_core.specs.Marked.{is_caller}
+use Rattle.nr_core.specs.Marked.{AllSince, HoldNoOthers, KnowsMarks, Marked, NotesPresent, Once, Since, is_caller}
 use Rattle.nr_core.specs.MarkSteps.{ProbeTells}
 use Rattle.nr_core.specs.Marks.{Marks, Past, gripped, past, with_poll, with_polls}
 use Rattle.nr_core.specs.Roles.{held, holds, retirements}
@@ -50,17 +49,7 @@ module _ {A : Type 0} (role : A → Role) (marks : A → Marks) (callers : List 
       → (old.count ≤ (marks who).acts)
       × ((marks who).acts ≡ old.count → (gripped grip ≡ old.slot) × ((marks who).put ≡ old.put))
   since_itself once place {reader} {who} {grip} there is old w same =
-      let z
-      = same_caller once w.place place reader w.who who w.grip grip w.there there
-      (w.is ∙ ap (λ (b : ℕ). Reader b w.grip) same) is in
-      let acts : (marks w.who).acts ≡ (marks who).acts = ap (λ (b : A). (marks b).acts) z in (
-        omega (arith, w.least),
-        λ e.
-            let s = w.same (acts ∙ e) in (
-              ap gripped (same_grip (sym is ∙ ap role (sym z) ∙ w.is)) ∙ s.0,
-              ap (λ (b : A). (marks b).put) (sym z) ∙ s.1,
-            ),
-      )
+      search (arith, same_caller, w.place, w.who, w.grip, w.there, w.is, w.least, w.same, same_grip)
 
   -- one of the callers is that reader
   pub record ReaderThere : Type 0 where
@@ -102,16 +91,11 @@ module _ {A : Type 0} {role : A → Role} {marks : A → Marks} {callers : List 
     -- it is noted behind other notes
     module _ (notes : List Past) where
       pub since_more : AllSince role marks callers notes → AllSince role marks callers (notes ++ noted one ∷ [])
-      since_more since at old there = ⊎_elim (since at old)
-          (λ (last : (at ≡ length notes) × (noted one ≡ old)). subst (Since role marks callers) last.1 (since_now one))
-          (at_last notes (noted one) old at there)
+      since_more since at old there = search (arith, since_now, at_last)
 
       pub present_more : (earlier : List Past) → NotesPresent role marks callers earlier notes
           → NotesPresent role marks callers earlier (notes ++ noted one ∷ [])
-      present_more earlier present at old there = ⊎_elim (present at old)
-          (λ (last : (at ≡ length notes) × (noted one ≡ old)). inr
-          (subst (IsPresent role marks callers) last.1 (one.place, one.who, one.grip, one.there, one.is, refl)))
-          (at_last notes (noted one) old at there)
+      present_more earlier present at old there = search (arith, at_last)
 
       -- as it is it holds no retired slot but its own
       pub alone_more : Once role marks callers → (desk : Desk) → HoldNoOthers role marks callers desk notes

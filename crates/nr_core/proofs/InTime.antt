@@ -1,23 +1,22 @@
 -- Each entry is told between its call's first step and its last.
-use Rattle.std.proofs.Common.{[], List, ap, append-nil, append_assoc, arith, cond, fold, inl, inr, length, map, refl}
-use Rattle.std.proofs.Common.{subst, sym, ℕ, ⊎_elim, ◌++◌, ◌+◌, ◌*◌, ◌<◌, ◌∙◌, ◌∷◌, ◌≡◌, ◌⊎◌}
+use Rattle.std.proofs.Common.{[], List, ap, append-nil, append_assoc, arith, fold, inl, inr, length, map, refl, subst}
+use Rattle.std.proofs.Common.{sym, ℕ, ⊎_elim, ◌++◌, ◌*◌, ◌<◌, ◌∙◌, ◌∷◌, ◌≡◌, ◌⊎◌}
 use Rattle.std.proofs.lemmas.List.Sums.{fold-append}
 use Rattle.std.proofs.lemmas.Bool.{ne_eqb}
-use Rattle.std.specs.Prelude.{None, Option, Some, nat_le, nat_lt}
+use Rattle.std.specs.Prelude.{None, Option, Some, nat_le}
 use Rattle.nr_model.specs.Histories.{Entry, entries_of}
 use Rattle.nr_model.specs.Maps.{ask_reply, find_reply}
 use Rattle.nr_model.specs.declared.calls.Call.{Call}
 use Rattle.nr_model.specs.declared.calls.Reply.{Reply}
 use Rattle.nr_model.specs.declared.states.KeyState.{KeyState}
-use Rattle.nr_words.specs.KeyWords.{same_count}
 use Rattle.nr_core.proofs.Choices.{on_test}
 use Rattle.nr_core.proofs.Follows.{told_by_caller}
 use Rattle.nr_core.proofs.Histories.{of-append}
 use Rattle.nr_core.specs.InTime.{BeganAmong, EntriesInTime, TellsOne, TellsOwn, told_by, told_since, under_way}
 use Rattle.nr_core.specs.Laws.{call_in, caller_of_event}
-use Rattle.nr_core.specs.Machine.{found_by, moved, names_held, unless}
+use Rattle.nr_core.specs.Machine.{found_by, moved, unless}
 use Rattle.nr_core.specs.Refusals.{refusal}
-use Rattle.nr_core.specs.States.{Arrive, Ask, Depart, Event, FindAgain, Go, Read, Start, State, hold_of, retired_at}
+use Rattle.nr_core.specs.States.{Arrive, Ask, Depart, Event, FindAgain, Go, Read, Start, State}
 use Rattle.nr_core.specs.Story.{Story, answering, beginning, call_of, ending, ending_at, shown, story_of, tell, told}
 use Rattle.nr_core.specs.Writer.{looked, went}
 use Rattle.nr_core.specs.declared.calls.Refusal.{Refusal}
@@ -29,7 +28,7 @@ use Rattle.nr_core.specs.declared.places.Place.TheVariants.{Idle, Putting, Readi
 use Rattle.nr_core.specs.declared.roles.Desk.{Desk}
 use Rattle.nr_core.specs.declared.shape.Shape.{Shape}
 use Rattle.nr_core.proofs.Guards.{at_reader_key}
-use Rattle.nr_core.proofs.Outcomes.{OfOutcomes, ShownBy, looked_has, read_has}
+use Rattle.nr_core.proofs.Without.{OfOutcomes, ShownBy, looked_has, read_has}
 use Rattle.nr_model.specs.declared.calls.Call.TheVariants as model
 use Rattle.nr_core.specs.declared.calls.WReply.TheVariants as writer
 
@@ -39,26 +38,14 @@ GoesOn calls outcome = (call_in outcome.0.place ≡ []) ⊎ ((call_in outcome.0.
 
 module _ (shape : Shape) (desk : Desk) where
   on_now : (shown : KeyState → Type 0) → OfOutcomes shape desk shown (λ call. GoesOn (call ∷ []))
-  on_now shown = record {
-    reads = λ _ _ _. inr (refl, refl);
-    leaves = λ _. inr (refl, refl);
-    withdraws = λ _. inr (refl, refl);
-    replies = λ _ _ _. inl refl;
-    gives_up = λ _. inl refl;
-    takes = λ _ _. inr (refl, refl);
-    searches = λ _ _. inr (refl, refl);
-    none = λ _ _ _ _. inl refl;
-  }
+  on_now shown = search (inl, inr)
 
   went_on : (place : Place) (found : ℕ) → GoesOn (call_in place) (went shape desk place found)
       ⊎ (place ≡ Idle)
   went_on Idle found = inr refl
   went_on (Reading call slot got) found =
       inl (read_has shape desk (λ call. GoesOn (call ∷ [])) on_now call slot (got ++ found ∷ []))
-  went_on (Searching call rows poll) found = inl
-      (on_test (GoesOn (call ∷ [])) (same_count found (retired_at desk poll).arrivals) (λ _. inr (refl, refl))
-      (λ _. on_test (GoesOn (call ∷ [])) (nat_lt (poll + 1) (length desk.retired)) (λ _. inr (refl, refl))
-      (λ _. inl refl)))
+  went_on (Searching call rows poll) found = search (arith, on_test)
   went_on (Putting call rows slot departed index) found = inl
       (on_test (GoesOn (call ∷ [])) (nat_le index (2 * length rows)) (λ _. inr (refl, refl)) (λ _. inl refl))
   went_on other found = inl (inl refl)
@@ -83,10 +70,7 @@ tells_ending_at other step = tells_ending _ step
 tells_own : (state : State) (event : Event) → TellsOwn state event
 tells_own state (Arrive reader at) = tells_answer reader (model.Find at) find_reply (shown state at)
 tells_own state (Ask reader at) = tells_answer reader (model.Ask at) ask_reply (shown state at)
-tells_own state (FindAgain reader at) =
-    on_test (Tells reader (model.Find at ∷ []))
-    (names_held (hold_of state reader) (found_by state (FindAgain reader at)))
-    (λ _. tells_answer reader (model.Find at) find_reply (shown state at)) (λ _. inl refl)
+tells_own state (FindAgain reader at) = search (arith, on_test, tells_answer)
 tells_own state (Start call) =
     tells_ending (call_of call) (looked state.shape state.desk call (found_by state (Start call))).1
 tells_own state Go =
@@ -122,10 +106,7 @@ leaves_if story event does = go (refusal story.state event) refl
 
 -- what a reader's event tells isn't the writer's
 of_reader : (story : Story) (event : Event) → 0 < caller_of_event event → entries_of (told story.state event) 0 ≡ []
-of_reader story event reader =
-    told_by_caller story.state event 0
-    ∙ ap (λ v. cond {A = List Entry} v (told story.state event) [])
-    (ne_eqb (caller_of_event event) 0 (λ zero. let e : caller_of_event event ≡ 0 = zero in omega arith))
+of_reader story event reader = search (arith, told_by_caller, ne_eqb)
 
 leaves : (story : Story) (event : Event) → Leaves story event
 leaves story (Read reader index) = leaves_if story (Read reader index) (λ _. inl (refl, refl))
@@ -164,10 +145,7 @@ behind_from (event ∷ later) story =
 since_more : (events : List Event) (event : Event) (story : Story)
     → told_since story (events ++ event ∷ []) ≡ told_since story events ++ told_by (fold tell story events) event
 since_more [] event story = append-nil (told_by story event)
-since_more (first ∷ events) event story =
-    ap (λ rest. told_by story first ++ rest) (since_more events event (tell story first))
-    ∙ sym (append_assoc (told_by story first) (told_since (tell story first) events)
-    (told_by (fold tell (tell story first) events) event))
+since_more (first ∷ events) event story = search (arith, since_more events event (tell story first), append_assoc)
 
 abbrev Began : Shape → List Event → Type 0
 Began shape events = (call : WriterCall) → under_way (story_of shape events) ≡ call ∷ [] → BeganAmong shape events call

@@ -1,6 +1,6 @@
 -- What a key's word names and asks: after an arrival, after a request, and where it is written anew.
-use Rattle.std.proofs.Common.{ap, arith, cond, eq-eqb, false, ne_eqb, suc, sym, true, ℕ, ◌%◌, ◌*◌, ◌+◌, ◌/◌, ◌<◌, ◌^◌}
-use Rattle.std.proofs.Common.{List, get_or, ◌∙◌, ◌≡◌, ◌≢◌}
+use Rattle.std.proofs.Common.{ap, arith, cond, eq-eqb, false, ne_eqb, suc, true, ℕ, ◌%◌, ◌*◌, ◌+◌, ◌/◌, ◌<◌, ◌^◌, List}
+use Rattle.std.proofs.Common.{get_or, ◌≡◌, ◌≢◌}
 use mathlib.Core.Logic.{dite}
 use native.Mathlib.Decide.{ℕ_discrete}
 use Rattle.nr_words.specs.KeyWords.{arrivals_of, hole_word, is_filled, naming, slot_of}
@@ -32,15 +32,11 @@ names_none w e =
     dite (ℕ_discrete (w / 2 % 2) 1) (λ l. let n = name_high w l in absurd (omega arith)) (λ l. not_filled w l)
 
 pub names_one : (w s : ℕ) → name_number w ≡ suc s → (is_filled w ≡ true) × (slot_of w ≡ s)
-names_one w s e =
-    dite (ℕ_discrete (w / 2 % 2) 1) (λ l. let n = name_high w l in (yes_filled w l, omega arith))
-    (λ l. let n = name_low w l in absurd (omega arith))
+names_one w s e = search (arith, name_high, yes_filled, name_low)
 
 -- words with the same slot and the same flag name the same
 pub same_name : (w x : ℕ) → x / 4 % 2 ^ 22 ≡ w / 4 % 2 ^ 22 → x / 2 % 2 ≡ w / 2 % 2 → name_number x ≡ name_number w
-same_name w x slot flag = dite (ℕ_discrete (w / 2 % 2) 1)
-    (λ l. let a = name_high w l in let b = name_high x (flag ∙ l) in omega arith)
-    (λ l. let a = name_low w l in let b = name_low x (λ z. l (sym flag ∙ z)) in omega arith)
+same_name w x slot flag = search (arith, name_high, name_low)
 
 pub name-bumped : (w : ℕ) → name_number ((w + 2 ^ 24) % 2 ^ 64) ≡ name_number w
 name-bumped w = same_name w ((w + 2 ^ 24) % 2 ^ 64) (omega arith) (omega arith)

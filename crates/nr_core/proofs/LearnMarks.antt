@@ -1,24 +1,24 @@
--- Steps that learn how readers are: the writer compares them with its lists, a reader itself with what it was told of
--- itself.
+-- Steps that learn: the writer compares how readers are with its lists, a reader itself with what it was told of
+-- itself; and a reader that finds a key again learns whether the key still has the put number of its hold.
 use Rattle.std.proofs.Common.{[], List, ap, append-nil, arith, cond, get_or, inl, inr, map, refl, subst, suc, sym, zero}
-use Rattle.std.proofs.Common.{ℕ, ◌<◌, ◌∙◌, ◌∷◌, ◌≡◌, ◌≤◌}
-use Rattle.std.proofs.lemmas.Bool.{lt-leb}
+use Rattle.std.proofs.Common.{ℕ, ◌<◌, ◌∙◌, ◌∷◌, ◌≡◌, ◌≤◌, Bool, eq-eqb, false, set, true, ⊎_elim, ◌-◌, ◌⊎◌}
+use Rattle.std.proofs.lemmas.Bool.{lt-leb, eqb-true}
 use Rattle.std.specs.Prelude.{Some}
 use lib.ListN.{get_elem?}
 use lib.Seq.{set-get_or}
 use mathlib.Core.Logic.{dite}
-use mathlib.Core.Option.{some, some-injective, some-ne-none}
+use mathlib.Core.Option.{some, some-injective}
 use native.Mathlib.Decide.{dec_le, ℕ_discrete}
 use Rattle.nr_model.specs.Histories.{Entry}
 use Rattle.nr_model.specs.Maps.{PartialMap}
-use Rattle.nr_core.proofs.Counting.{retired_once}
+use Rattle.nr_core.proofs.Counting.{retired_once, named_inside}
 use Rattle.nr_core.proofs.Sums.{only-is, some_term, term_le}
 use Rattle.nr_core.specs.Core.{Core, Grips}
 use Rattle.nr_core.specs.Roles.{held, holds, retirements, taken}
 use Rattle.nr_core.specs.declared.operation.Operation.TheVariants.{Load}
-use Rattle.nr_core.specs.Slots.{name_number}
-use Rattle.nr_core.specs.Steps.{LoadsWord}
-use Rattle.nr_core.specs.Story.{map_after}
+use Rattle.nr_core.specs.Slots.{name_number, names_slot}
+use Rattle.nr_core.specs.Steps.{LoadsWord, FindsAgain}
+use Rattle.nr_core.specs.Story.{map_after, entry}
 use Rattle.nr_core.specs.Sums.{below, only}
 use Rattle.nr_core.specs.declared.places.Retired.{Retired}
 use Rattle.nr_core.specs.declared.roles.Desk.{Desk}
@@ -27,19 +27,25 @@ use Rattle.nr_core.specs.declared.roles.Grip.TheVariants.{Nothing, On}
 use Rattle.nr_core.specs.declared.roles.Role.{Role}
 use Rattle.nr_core.specs.declared.roles.Role.TheVariants.{Reader, Writer}
 use Rattle.nr_core.specs.declared.shape.Shape.{Shape}
-use Rattle.nr_core.specs.Marks.{Marks, Past, gripped, past}
+use Rattle.nr_core.specs.Marks.{Marks, Past, gripped, past, with_look}
 use Rattle.nr_core.specs.Pasts.{Current, Living, Refreshed}
-use Rattle.nr_core.specs.Marked.{AllSince, CanMark, Desked, Once, Since, lives}
+use Rattle.nr_core.specs.Marked.{AllSince, CanMark, Desked, Once, Since, lives, Remarked}
 use Rattle.nr_core.specs.Exact.{Lists}
-use Rattle.nr_core.specs.MarkSteps.{ReaderLearns, WriterLearns}
+use Rattle.nr_core.specs.MarkSteps.{ReaderLearns, WriterLearns, ComparesPuts, FindsAgainMarks, found_again}
 use Rattle.nr_core.proofs.ListPlaces.{at_maps, no_places, some_is}
 use Rattle.nr_core.proofs.Holders.{since_itself, since_now}
 use Rattle.nr_core.proofs.ReaderMarks.{reader_step, contents_loaded}
-use Rattle.nr_core.proofs.Stands.{taken_nobody}
+use Rattle.nr_core.proofs.Reach.{taken_nobody}
 use Rattle.nr_core.proofs.SwapMarks.{grips_it}
 use Rattle.nr_core.proofs.Tidy.{listed}
-use Rattle.nr_core.proofs.DeskMarks.{desk_of, load_stays, writer_step}
-use Rattle.nr_core.proofs.PutNumbers.{none_end}
+use Rattle.nr_core.proofs.LookMarks.{desk_of, load_stays, writer_step}
+use Rattle.nr_core.proofs.PutNumbers.{none_end, QuietEnd, one_ends}
+use Rattle.nr_model.specs.declared.rows.Row.{Row}
+use Rattle.nr_core.proofs.KeyWords.{is_named}
+use Rattle.nr_core.specs.Puts.{put_number}
+use Rattle.nr_core.proofs.Choices.{either}
+use Rattle.nr_model.specs.declared.calls.Call.TheVariants as model
+use Rattle.nr_model.specs.declared.calls.Reply.TheVariants as reply
 
 below_some : (f : ℕ → ℕ) (n : ℕ) → 0 < below f n → (k : ℕ) × (k < n) × (0 < f k)
 below_some f zero l = absurd (omega arith)
@@ -114,10 +120,7 @@ module _ {A : Type 0} (role : A → Role) (marks : A → Marks) where
     refreshed [] since = (
       [],
       no_places (Since role marks callers),
-      record {
-        newer = λ n o e. absurd (some-ne-none o (sym e));
-        current = no_places (Current desk.retired (marks me));
-      },
+      search arith,
     )
     refreshed (o ∷ told) since =
         let w = since 0 o refl in let q : Past = past o.reader w.grip (marks w.who) in
@@ -180,3 +183,58 @@ module _ {A : Type 0} (role : A → Role) (marks : A → Marks) where
           refl,
           λ n o e. since_itself role marks callers once id at was o (since n o e),
         )
+
+-- A reader that holds a slot finds a key again: whether the key still has the put number of the hold.
+
+module _ {A : Type 0} (role : A → Role) (marks : A → Marks) where
+  module _ (shape : Shape) (id : ℕ) (me : A) (known : List Past) where
+    pub finds_again_marked : (reader slot key : ℕ) (rows : List Row) (sized : Bool) → key < shape.keys
+        → role me ≡ Reader reader (On slot rows sized)
+        → CanMark role marks shape id me known (Load key) (FindsAgain shape reader slot rows sized key)
+        (FindsAgainMarks (marks me) slot key)
+    finds_again_marked reader slot key rows sized near was words callers log core m once at since after entries ans =
+        let word : ℕ = get_or words key 0 in
+        let grip = On slot rows sized in
+        let e = entry reader (model.Find key) (reply.Rows rows) in
+        let tells = FindsAgainMarks (marks me) slot key in
+        let names : (k : ℕ) → name_number (get_or (set words key word) k 0) ≡ name_number (get_or words k 0)
+        = λ k. ap (λ l. name_number (get_or l k 0)) (set-get_or words key 0) in
+        let w = m.writer in let own = desk_of w.place m w.there w.is in
+        let held_put : get_or (marks w.who).puts slot 0 ≡ (marks me).put
+        = (own.held id reader slot me grip at was refl).0 in
+        let looked : Marks = with_look (marks me) key (name_number word) in
+        let finish : (b : Bool) → names_slot slot word ≡ b → QuietEnd log entries
+        → (((marks me).acts < (found_again b looked).acts) × (b ≡ true))
+        ⊎ ((found_again b looked ≡ looked) × (b ≡ false))
+        → ((found_again b looked).put ≡ (marks me).put) → ((found_again b looked).polls ≡ (marks me).polls)
+        → ComparesPuts b word (marks me).put (put_number log key)
+        → Remarked role marks shape words callers log id (Load key) me after entries tells
+        = λ b b_is ends moves same_put same_polls compares. let now = found_again b looked in
+        reader_step m at was ans.0 (λ k _. names k) ends now same_polls
+        (⊎_elim (λ (t : ((marks me).acts < now.acts) × (b ≡ true)). inr t.0)
+        (λ (t : (now ≡ looked) × (b ≡ false)). inl
+        (refl, ap (λ (k : Marks). k.acts) t.0, ap (λ (k : Marks). k.put) t.0))
+        moves)
+        (λ j held u desk there writes t on.
+        let kept = t.held id reader held me grip at was on in ((kept.0 ∙ sym same_put, kept.1), λ _. on))
+        (contents_loaded shape words key) (
+          ap (λ (c : Bool). found_again c looked) (sym b_is),
+          refl,
+          subst (λ (p : Bool × ℕ). ComparesPuts p.0 word (marks me).put p.1) (λ i. (sym b_is i, sym (ends.0 key) i))
+              compares,
+        ) in
+        either (names_slot slot word)
+        (λ yes. let same : name_number word ≡ suc slot = eqb-true (name_number word) (suc slot) yes in
+        finish true yes
+        (one_ends log entries e (ans.1 ∙ ap (λ (b : Bool). cond {A = List Entry} b (e ∷ []) []) yes) refl)
+        (inl (omega arith, refl)) refl refl (sym (own.puts key slot near same).0 ∙ held_put)) (λ no. finish false no
+        (none_end log entries (ans.1 ∙ ap (λ (b : Bool). cond {A = List Entry} b (e ∷ []) []) no)) (inr (refl, refl))
+        refl refl (λ full same_number.
+        let other : ℕ = name_number word - 1 in let names_other : name_number word ≡ suc other = omega arith in
+        let living = held_lives role marks callers core w.place w.there w.is id at was slot refl in
+        let inside = named_inside shape words (map role callers) log core key other near names_other in
+        let same
+        = own.apart slot other living.0 inside living.1 (omega (arith, is_named shape words key other near names_other))
+        (held_put ∙ sym same_number ∙ sym (own.puts key other near names_other).0) in
+        let yes = eq-eqb (name_number word) (suc slot) (names_other ∙ ap suc (sym same)) in
+        let clash : true ≡ false = sym yes ∙ no in absurd (cc)))

@@ -1,15 +1,8 @@
 -- For the crates above: the laws of the steps (`src/laws.rt` says each of them), and what they share, of sums,
 -- histories, key words, sets read through, calls that end with no slot, slots counted, keys numbered, where words lie,
 -- and what holds of reached states.
-pub mod Arrive
-pub mod Ask
-pub mod Read
-pub mod FindAgain
-pub mod HoldNamed
-pub mod Depart
-pub mod Look
-pub mod Go
-pub mod Poll
+pub mod ReaderSteps
+pub mod WriterSteps
 pub mod Learn
 pub mod Opening
 pub mod Seat
@@ -21,9 +14,7 @@ pub mod KeyWords
 pub mod Frames
 pub mod Settle
 pub mod Guards
-pub mod Sets
 pub mod ReadThrough
-mod Outcomes
 pub mod Without
 pub mod Counting
 pub mod Numbers
@@ -34,14 +25,12 @@ pub mod ListPlaces
 pub mod PutNumbers
 pub mod Knowing
 pub mod ReaderMarks
-pub mod HoldNamedMarks
 pub mod LookMarks
 pub mod Different
 pub mod ReapMarks
 pub mod SearchMarks
 pub mod GoMarks
 pub mod LearnMarks
-pub mod FindAgainMarks
 pub mod SeatMarks
 pub mod ExactPlace
 -- This crate's own.
@@ -49,29 +38,17 @@ pub mod ExactPlace
 mod Walks
 mod Shapes
 mod OnKey
-mod OffKeys
 mod Stepping
-mod Recount
 mod Swap
-mod Put
-mod WriterRead
-mod Shown
 mod StateRoles
 mod ReaderEvents
 mod Events
 mod Sweeps
-mod Stands
 mod Follows
-mod Runs
-mod Justified
 mod Schedules
 mod MarksSince
-mod DeskMarks
 mod SwapMarks
 mod Holders
-mod PollMarks
-mod HowOften
 mod Tidy
 mod Strays
-mod ByHistory
 mod InTime

@@ -3,7 +3,7 @@ use Rattle.std.proofs.Common.{List, [], ap, arith, inl, inr, length, map, refl, 
 use Rattle.std.proofs.Common.{◌<◌, ◌∷◌, ◌≡◌, ◌≢◌, ◌⊎◌}
 use lib.ListN.{get_elem?}
 use mathlib.Core.Option.{some, some-injective, some-ne-none}
-use Rattle.std.specs.Prelude.{Option, None, Some}
+use Rattle.std.specs.Prelude.{Some}
 
 module _ {A B : Type 0} where
   pub at_maps : (f : A → B) (l : List A) (j : ℕ) (a : A) → get_elem? l j ≡ some a → get_elem? (map f l) j ≡ some (f a)
@@ -52,9 +52,5 @@ module _ {A : Type 0} where
   pub no_places : (P : A → Type 0) (at : ℕ) (a : A) → get_elem? [] at ≡ some a → P a
   no_places P at a e = absurd (some-ne-none a (sym e))
 
-abbrev value_of : Option ℕ → ℕ
-value_of None = 0
-value_of (Some n) = n
-
 pub some_is : (a b : ℕ) → Some a ≡ Some b → a ≡ b
-some_is a b e = ap value_of e
+some_is a b e = cc

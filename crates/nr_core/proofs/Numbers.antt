@@ -1,8 +1,6 @@
 -- The writer's list has each key's ticket number after one entry more, and no number is past the last one.
-use Rattle.std.proofs.Common.{List, [], ap, arith, get_or, get_or-set_other, get_or-set_same, length-set, set, sym, ℕ}
-use Rattle.std.proofs.Common.{◌++◌, ◌+◌, ◌<◌, ◌∙◌, ◌∷◌, ◌≡◌, ◌≤◌}
-use mathlib.Core.Logic.{dite}
-use native.Mathlib.Decide.{ℕ_discrete}
+use Rattle.std.proofs.Common.{List, [], arith, get_or, get_or-set_other, get_or-set_same, length-set, set, ℕ, ◌++◌, ◌+◌}
+use Rattle.std.proofs.Common.{◌<◌, ◌∷◌, ◌≡◌, ◌≤◌}
 use Rattle.nr_model.proofs.HistoryLemmas.{numbers_count_cancels_lem}
 use Rattle.nr_model.specs.Histories.{Entry, IsLegal}
 use Rattle.nr_model.specs.Maps.{call_key, last_number, number_of, state_after, state_of}
@@ -19,12 +17,7 @@ pub numbers_kept : (shape : Shape) (log : List Entry) (e : Entry) (numbers : Lis
     → number_of (state_after (bound_of shape) e.call (state_of (map_after shape log) (call_key e.call)))
     ≡ number_of (state_of (map_after shape log) (call_key e.call))
     → AreNumbers shape (map_after shape log) numbers → AreNumbers shape (map_after shape (log ++ e ∷ [])) numbers
-numbers_kept shape log e numbers near same =
-    let map = map_after shape log in
-    let map' = map_after shape (log ++ e ∷ []) in
-    numbers_more shape map map' numbers (λ j _. dite (ℕ_discrete j (call_key e.call))
-    (λ is. rw is (ap number_of (state_same shape log e near) ∙ same))
-    (λ ne. ap number_of (state_other shape log e j ne)))
+numbers_kept shape log e numbers near same = search (arith, numbers_more, e.call, state_same, state_other)
 
 -- an entry that gives its key the next number
 pub numbers_next : (shape : Shape) (log : List Entry) (e : Entry) (numbers : List ℕ) → call_key e.call < shape.keys
@@ -34,22 +27,10 @@ pub numbers_next : (shape : Shape) (log : List Entry) (e : Entry) (numbers : Lis
     → AreNumbers shape (map_after shape (log ++ e ∷ []))
     (set numbers (call_key e.call) (get_or numbers (call_key e.call) 0 + 1))
 numbers_next shape log e numbers near next t =
-    let map' = map_after shape (log ++ e ∷ []) in
-    let k : ℕ = call_key e.call in
-    let x : ℕ = get_or numbers k 0 + 1 in
-    let each = t.each in
-    record {
-      each = length-set numbers k x ∙ t.each;
-      agree = λ j low. dite (ℕ_discrete j k)
-          (λ is. rw is
-          (get_or-set_same numbers k x 0 (omega arith) ∙ sym next ∙ sym (ap number_of (state_same shape log e near))))
-          (λ ne. cc (get_or-set_other numbers k j x 0 ne, t.agree j low, state_other shape log e j ne));
-    }
+    search (arith, e.call, t.each, length-set, get_or-set_same, state_same, get_or-set_other, t.agree, state_other)
 
 pub number_within : (shape : Shape) (log : List Entry) (numbers : List ℕ) → IsShape shape
     → IsLegal (opening_map shape) log
     → AreNumbers shape (map_after shape log) numbers → (at : ℕ) → at < shape.keys → get_or numbers at 0 ≤ last_number
 number_within shape log numbers fits legal t at near =
-    let last
-    = (numbers_count_cancels_lem shape.keys (bound_of shape) shape.first_number at log legal near).1 fits.number in
-    omega (arith, t.agree at near)
+    search (arith, numbers_count_cancels_lem, shape.keys, shape.first_number, fits.number, t.agree)

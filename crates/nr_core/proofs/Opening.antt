@@ -5,7 +5,6 @@ use Rattle.std.proofs.Math.ListN.{get_or-append}
 use Rattle.std.proofs.lemmas.List.{get_or-replicate, length-append, length-replicate, get_or-append-add}
 use lib.ListN.{get_elem?}
 use mathlib.Core.Option.{some, some-injective, some-ne-none}
-use Rattle.nr_model.specs.Maps.{number_of}
 use Rattle.nr_model.specs.declared.states.KeyState.{KeyState}
 use Rattle.nr_words.specs.KeyWords.{hole_word}
 use Rattle.nr_words.specs.Places.{total_of}
@@ -89,11 +88,7 @@ length-repeated room (suc n) b size = omega (arith, length-append b (repeated n 
 
 -- every key has the first number
 first_numbers : (shape : Shape) → AreNumbers shape (opening_map shape) (replicate shape.keys shape.first_number)
-first_numbers shape = record {
-  each = length-replicate shape.keys shape.first_number;
-  agree = λ k near. get_or-replicate shape.keys k shape.first_number 0 near
-      ∙ ap number_of (sym (get_or-replicate shape.keys k (key.Hole shape.first_number) (key.Hole 0) near));
-}
+first_numbers shape = search (arith, length-replicate, get_or-replicate)
 
 -- the writer, and that many readers
 pub core_opens : OpeningLaw

@@ -1,8 +1,6 @@
 -- What is known of the retired slots as their list changes: how often each is there, and that the first were reaped.
-use Rattle.std.proofs.Common.{List, [], Bool, true, false, ap, arith, get_or, length, refl, remove, set, subst, suc}
-use Rattle.std.proofs.Common.{zero, ℕ, ◌++◌, ◌+◌, ◌-◌, ◌<◌, ◌∙◌, ◌∷◌, ◌≡◌, ◌≤◌, slice_index, slice_index_or}
-use mathlib.Core.Logic.{dite}
-use native.Mathlib.Decide.{ℕ_discrete, dec_lt}
+use Rattle.std.proofs.Common.{List, [], Bool, true, false, arith, get_or, length, refl, remove, set, subst, suc, ℕ}
+use Rattle.std.proofs.Common.{◌++◌, ◌+◌, ◌-◌, ◌<◌, ◌∷◌, ◌≡◌, ◌≤◌, slice_index}
 use Rattle.std.proofs.lemmas.List.{get_or-set_other, get_or-set_same, length-append}
 use Rattle.std.proofs.lemmas.List.Edits.{get_or-remove_above, get_or-remove_below, length-remove}
 use Rattle.std.proofs.Math.ListN.{get_or-append}
@@ -11,46 +9,30 @@ use Rattle.nr_core.specs.Roles.{retirements}
 use Rattle.nr_core.specs.SlotLists.{AreReaped, CountsRetirements, CountsMore, CountsFewer}
 use Rattle.nr_core.specs.States.{no_retired}
 use Rattle.nr_core.specs.Sums.{only}
-use Rattle.nr_core.proofs.Sums.{only-same, total-append}
+use Rattle.nr_core.proofs.Sums.{got_at, only-same, term_le, total-append, total-remove}
 
 -- without the slot at a place
 pub retired_less : (retired : List Retired) (place : ℕ) (entry : Retired) → place < length retired
     → entry ≡ get_or retired place entry → (slot : ℕ)
     → retirements slot (remove retired place) + only slot entry.slot ≡ retirements slot retired
-retired_less [] place entry inside same slot = absurd (omega arith)
-retired_less (first ∷ others) zero entry inside same slot =
-    let one = ap (λ (it : Retired). only slot it.slot) same in omega arith
-retired_less (first ∷ others) (suc place) entry inside same slot =
-    omega (arith, retired_less others place entry (omega arith) same slot)
+retired_less retired place entry inside same slot = search (arith, total-remove, got_at)
 
 -- a slot that stands at a place
 pub retired_there : (retired : List Retired) (place : ℕ) → place < length retired
     → 0 < retirements (get_or retired place no_retired).slot retired
-retired_there [] place inside = absurd (omega arith)
-retired_there (first ∷ others) zero inside = omega (arith, only-same first.slot)
-retired_there (first ∷ others) (suc place) inside = omega (arith, retired_there others place (omega arith))
+retired_there retired place inside = search (arith, got_at, term_le, only-same)
 
 module _ (slots : ℕ) (retired after : List Retired) (old new : List ℕ) (slot : ℕ) (same : length new ≡ length old)
     (known : CountsRetirements slots retired old) where
   pub counts_more : CountsMore slot old new
       → ((other : ℕ) → retirements other after ≡ only other slot + retirements other retired)
       → CountsRetirements slots after new
-  counts_more more adds = (
-    same ∙ known.0,
-    λ other inside few.
-        let told = more other (omega (arith, known.0)) few in
-        omega (arith, known.1 other inside told.0, adds other),
-  )
+  counts_more more adds = search arith
 
   pub counts_fewer : CountsFewer slot old new
       → ((other : ℕ) → retirements other after + only other slot ≡ retirements other retired)
       → CountsRetirements slots after new
-  counts_fewer fewer takes = (
-    same ∙ known.0,
-    λ other inside few.
-        let told = fewer other (omega (arith, known.0)) few in
-        omega (arith, known.1 other inside told.0, takes other),
-  )
+  counts_fewer fewer takes = search arith
 
 pub retired_last : (retired : List Retired) (entry : Retired) (other : ℕ)
     → retirements other (retired ++ entry ∷ []) ≡ only other entry.slot + retirements other retired
@@ -59,56 +41,22 @@ retired_last retired entry other =
 
 module _ (count : ℕ) (retired : List Retired) (reaped : List Bool) (known : AreReaped count retired reaped) where
   pub reaped_still : (more : List Retired) → AreReaped count (retired ++ more) reaped
-  reaped_still more =
-      let longer = length-append retired more in (
-        omega (arith, known.0),
-        λ place first.
-            cc (get_or-append retired more no_retired place (omega (arith, known.0)), known.1 place first),
-      )
+  reaped_still more = search (arith, length-append, get_or-append)
 
   -- without one of them, or without a later one
   pub reaped_before : (at : ℕ) → at < count → AreReaped (count - 1) (remove retired at) reaped
-  reaped_before at early =
-      let shorter = length-remove retired at (omega (arith, known.0)) in (
-        omega (arith, known.0),
-        λ place first. dite (dec_lt place at)
-            (λ below. ap (λ (it : Retired). slice_index_or reaped it.slot false)
-            (get_or-remove_below retired at no_retired place below (omega (arith, known.0)))
-            ∙ known.1 place (omega arith))
-            (λ above. ap (λ (it : Retired). slice_index_or reaped it.slot false)
-            (get_or-remove_above retired at no_retired place (omega arith) (omega (arith, known.0)))
-            ∙ known.1 (place + 1) (omega arith)),
-      )
+  reaped_before at early = search (arith, length-remove, get_or-remove_below, get_or-remove_above)
 
   pub reaped_behind : (at : ℕ) → count ≤ at → at < length retired → AreReaped count (remove retired at) reaped
-  reaped_behind at late inside =
-      let shorter = length-remove retired at inside in (
-        omega arith,
-        λ place first. cc (get_or-remove_below retired at no_retired place (omega arith) inside, known.1 place first),
-      )
+  reaped_behind at late inside = search (arith, length-remove, get_or-remove_below)
 
   -- one more was reaped
   pub reaped_too : (slot : ℕ) → slot < length reaped → AreReaped count retired (set reaped slot true)
-  reaped_too slot inside = (
-    known.0,
-    λ place first.
-        let here = (get_or retired place no_retired).slot in
-        dite (ℕ_discrete here slot)
-        (λ same. ap (λ it. get_or (set reaped slot true) it false) same ∙ get_or-set_same reaped slot true false inside)
-        (λ other. get_or-set_other reaped slot here true false other ∙ known.1 place first),
-  )
+  reaped_too slot inside = search (arith, get_or-set_same, get_or-set_other)
 
   -- one that isn't retired was put
   pub reaped_others : (slot : ℕ) → retirements slot retired ≡ 0 → AreReaped count retired (set reaped slot false)
-  reaped_others slot none = (
-    known.0,
-    λ place first.
-        let here = (get_or retired place no_retired).slot in
-        get_or-set_other reaped slot here false false (λ same.
-        let moved = ap (λ it. retirements it retired) same in
-        absurd (omega (arith, retired_there retired place (omega (arith, known.0)))))
-        ∙ known.1 place first,
-  )
+  reaped_others slot none = search (arith, get_or-set_other, retired_there)
 
 pub reaped_tail : (count : ℕ) (first : Retired) (others : List Retired) (reaped : List Bool)
     → AreReaped count (first ∷ others) reaped → AreReaped (count - 1) others reaped
@@ -124,25 +72,19 @@ pub counts_taken : (slots : ℕ) (retired after : List Retired) (old new : List 
     → length new ≡ length old → CountsRetirements slots retired old → CountsFewer entry.slot old new
     → CountsRetirements slots after new
 counts_taken slots retired after old new place entry inside here gone same known fewer =
-    counts_fewer slots retired after old new entry.slot same known fewer
-    (λ other. let less = retired_less retired place entry inside here other in
-    let moved = ap (retirements other) gone in omega arith)
+    search (arith, counts_fewer, retired_less)
 
 -- a slot was put behind the others, or before them
 pub counts_put : (slots : ℕ) (retired after : List Retired) (old new : List ℕ) (entry : Retired)
     → after ≡ retired ++ entry ∷ [] → length new ≡ length old → CountsRetirements slots retired old
     → CountsMore entry.slot old new → CountsRetirements slots after new
-counts_put slots retired after old new entry put same known more =
-    counts_more slots retired after old new entry.slot same known more
-    (λ other. let moved = ap (retirements other) put in omega (arith, retired_last retired entry other))
+counts_put slots retired after old new entry put same known more = search (arith, counts_more, retired_last)
 
 -- the first was taken
 pub counts_popped : (slots : ℕ) (retired after : List Retired) (old new : List ℕ) (entry : Retired)
     → retired ≡ entry ∷ after → length new ≡ length old → CountsRetirements slots retired old
     → CountsFewer entry.slot old new → CountsRetirements slots after new
-counts_popped slots retired after old new entry popped same known fewer =
-    counts_fewer slots retired after old new entry.slot same known fewer
-    (λ other. let moved = ap (retirements other) popped in omega arith)
+counts_popped slots retired after old new entry popped same known fewer = search (arith, counts_fewer)
 
 pub reaped_popped : (count : ℕ) (retired after : List Retired) (entry : Retired) (reaped : List Bool)
     → retired ≡ entry ∷ after → AreReaped count retired reaped → AreReaped (count - 1) after reaped

@@ -16,9 +16,7 @@ put-append key next last (e ∷ es) fs = let a : ℕ = puts_set e in let q : ℕ
 
 pub put_more : (log : List Entry) (e : Entry) (key : ℕ)
     → put_number (log ++ e ∷ []) key ≡ cond (puts_at key e) (put_count log) (put_number log key)
-put_more log e key =
-    let same : 0 + put_count log ≡ put_count log = omega arith in
-    put-append key 0 0 log (e ∷ []) ∙ ap (λ (y : ℕ). cond (puts_at key e) y (put_number log key)) same
+put_more log e key = search (arith, put-append)
 
 pub count_more : (log : List Entry) (e : Entry) → put_count (log ++ e ∷ []) ≡ put_count log + puts_set e
 count_more log e = let t = total-append puts_set log (e ∷ []) in omega arith

@@ -15,16 +15,12 @@ use Rattle.nr_model.specs.declared.rows.Row.{Row}
 use Rattle.nr_words.proofs.SetWordLemmas.{length-row_words}
 use Rattle.nr_words.specs.KeyWords.{slot_of}
 use Rattle.nr_words.specs.SetWords.{encode}
-use Rattle.nr_core.proofs.Arrive.{arrives}
-use Rattle.nr_core.proofs.Ask.{asks}
+use Rattle.nr_core.proofs.ReaderSteps.{arrives, asks, departs, finds_again, reads}
 use Rattle.nr_core.proofs.Choices.{by_cases}
-use Rattle.nr_core.proofs.Depart.{departs}
-use Rattle.nr_core.proofs.FindAgain.{finds_again}
 use Rattle.nr_core.proofs.Guards.{guard, no_some, at_reader, at_reader_key}
 use Rattle.nr_core.proofs.Histories.{replies_so}
 use Rattle.nr_core.proofs.KeyWords.{names_none, names_one}
-use Rattle.nr_core.proofs.Read.{reads}
-use Rattle.nr_core.proofs.Shown.{shown_is}
+use Rattle.nr_core.proofs.ReadThrough.{shown_is}
 use Rattle.nr_core.proofs.StateRoles.{IsCoreState, erased, found_quiet, no_grip, Found, after_reader, found_now}
 use Rattle.nr_core.proofs.StateRoles.{one_other, same_rows, found_of, reader_of}
 use Rattle.nr_core.specs.Core.{Core}
@@ -55,21 +51,20 @@ is_held : (x : Grip) → if_not_holding (erased x) ≡ None → (s : ℕ) × (ro
 is_held Nothing e = absurd (no_some (Some refuse.NotHolding) refuse.NotHolding refl e)
 is_held (On s rows b) e = (s, rows, b, refl)
 
-readable : (i : ℕ) (x : Grip) → if_unreadable i (erased x) ≡ None → (if_not_holding (erased x) ≡ None)
-    × ((s : ℕ) (rows : List Row) (b : Bool) → x ≡ On s rows b → i < length (encode rows))
+-- an index that is not beyond the set is within its words
+pub within_set : (index : ℕ) (rows : List Row) (sized : Bool)
+    → if_beyond index (cond sized (Some (length rows)) None) ≡ None → index < length (encode rows)
+within_set index rows true ok =
+    let g = guard (nat_le index (2 * length rows)) None refuse.OutOfRange ok in
+    omega (arith, leb-true index (2 * length rows) g.0, length-row_words rows)
+within_set index rows false ok =
+    let g = guard (nat_eq index 0) None refuse.OutOfRange ok in
+    omega (arith, eqb-true index 0 g.0)
+
+readable : (i : ℕ) (x : Grip) → if_unreadable i (erased x) ≡ None
+    → (s : ℕ) × (rows : List Row) × (b : Bool) × (x ≡ On s rows b) × (i < length (encode rows))
 readable i Nothing e = absurd (no_some (Some refuse.NotHolding) refuse.NotHolding refl e)
-readable i (On s rows b) e =
-    (refl, λ s' rows' b' is. rw (sym (same_rows s s' rows rows' b b' is)) (within b e))
-  where
-    within : (b : Bool) → if_beyond i (cond b (Some (length rows)) None) ≡ None → i < length (encode rows)
-    within true e =
-        let g = guard (nat_le i (2 * length rows)) None refuse.OutOfRange e in
-        let l : i ≤ 2 * length rows = leb-true i (2 * length rows) g.0 in
-        let n = length-row_words rows in
-        omega arith
-    within false e =
-        let g = guard (nat_eq i 0) None refuse.OutOfRange e in
-        omega (arith, eqb-true i 0 g.0)
+readable i (On s rows b) e = (s, rows, b, refl, within_set i rows b e)
 
 module _ (state : State) (log : List Entry) (is_core : IsCoreState state log) (r : ℕ) (low : 0 < r)
     (high : r ≤ state.shape.readers) where
@@ -216,15 +211,14 @@ after_read state log r p is_core ok =
     let words = state.words in
     let at = at_reader shape r _ ok in
     let o = reader_of is_core.fit r at.0 at.1 in
-    let can = readable p o.0 (ap (if_unreadable p) (sym o.2) ∙ at.2) in
-    let x = is_held o.0 can.0 in
+    let x = readable p o.0 (ap (if_unreadable p) (sym o.2) ∙ at.2) in
     let s = x.0 in
     let m = x.1 in
     let b = x.2 in
     let there = o.1 ∙ ap (λ (y : Grip). some (Reader r y)) x.3 in
     let held : hold_of state r ≡ erased (On s m b) = o.2 ∙ ap erased x.3 in
     let b' : Bool = cond (nat_eq p 0) true b in
-    let t = reads shape r r s m b p (can.1 s m b x.3) words is_core.roles log is_core.core there in
+    let t = reads shape r r s m b p x.4 words is_core.roles log is_core.core there in
     let w : ℕ = get_or words (content shape s p) 0 in
     let known = ap (hold.On s)
     (by_cases

@@ -1,13 +1,12 @@
--- A reader's steps: it arrives, requests, reads and departs, and its marks go along.
+-- A reader's steps, and its marks go along: it arrives, requests, reads and departs; it looks a key up, and holds the
+-- slot that the key names.
 use Rattle.std.proofs.Common.{Bool, List, [], ap, arith, cond, false, get_or, get_or-set_other, get_or-set_same, inl}
 use Rattle.std.proofs.Common.{inr, refl, set, suc, sym, true, ℕ, ⊎_elim, ◌%◌, ◌++◌, ◌+◌, ◌<◌, ◌^◌, ◌∙◌, ◌∷◌, ◌≡◌, ◌≤◌}
-use Rattle.std.proofs.Common.{◌⊎◌}
+use Rattle.std.proofs.Common.{◌⊎◌, ◌-◌}
 use Rattle.std.specs.Prelude.{Some, bit_or, length}
 use lib.ListN.{get_elem?}
 use lib.Seq.{set-get_or}
-use mathlib.Core.Logic.{dite}
 use mathlib.Core.Option.{some}
-use native.Mathlib.Decide.{ℕ_discrete}
 use Rattle.nr_model.specs.Histories.{Entry, is_done}
 use Rattle.nr_model.specs.declared.calls.Reply.{Reply}
 use Rattle.nr_model.specs.declared.rows.Row.{Row}
@@ -21,7 +20,7 @@ use Rattle.nr_core.specs.Operations.{target_of, operated}
 use Rattle.nr_core.specs.declared.operation.Operation.{Operation}
 use Rattle.nr_core.specs.declared.operation.Operation.TheVariants.{Add, Load, Or}
 use Rattle.nr_core.specs.Slots.{content, departures, name_number}
-use Rattle.nr_core.specs.Steps.{Arrives, Asks, Departs, ReadsHeld, ask_word}
+use Rattle.nr_core.specs.Steps.{Arrives, Asks, Departs, ReadsHeld, ask_word, HoldsNamed, LooksUp}
 use Rattle.nr_core.specs.Story.{entry}
 use Rattle.nr_core.specs.declared.roles.Desk.{Desk}
 use Rattle.nr_core.specs.declared.roles.Grip.{Grip}
@@ -30,22 +29,23 @@ use Rattle.nr_core.specs.declared.roles.Role.{Role}
 use Rattle.nr_core.specs.declared.roles.Role.TheVariants.{Reader, Writer}
 use Rattle.nr_core.specs.declared.shape.Shape.{Shape}
 use Rattle.nr_core.specs.Puts.{put_number}
-use Rattle.nr_core.specs.Marks.{Marks, Past, acted, gripped}
-use Rattle.nr_core.specs.Marked.{Keeps, CanMark, Desked, Evolves, MarkTelling, Marked, Remarked, Since}
-use Rattle.nr_core.specs.MarkSteps.{ArrivesMarks, DepartsMarks, KeepsMarks}
+use Rattle.nr_core.specs.Marks.{Marks, Past, acted, gripped, with_look}
+use Rattle.nr_core.specs.Marked.{Keeps, CanMark, Desked, Evolves, MarkTelling, Marked, Remarked, Since, CanMarkWhere}
+use Rattle.nr_core.specs.MarkSteps.{ArrivesMarks, DepartsMarks, KeepsMarks, HoldsNamedMarks, LooksUpMarks}
 use Rattle.nr_core.proofs.ListPlaces.{no_places, some_is}
 use Rattle.nr_core.proofs.MarksSince.{SameContents, marked_reader, rests}
 use Rattle.nr_core.proofs.Holders.{same_grip}
 use Rattle.nr_core.proofs.PutNumbers.{QuietEnd, none_end, one_ends}
+use Rattle.nr_core.proofs.Choices.{either}
 use Rattle.nr_model.specs.declared.calls.Call.TheVariants as model
 use Rattle.nr_model.specs.declared.calls.Reply.TheVariants as reply
+
+-- A reader's steps: it arrives, requests, reads and departs, and its marks go along.
 
 -- words of the keys that name the same after a step: on a key's word, behind the keys, by a load
 pub names_kept : (words : List ℕ) (i x : ℕ) → i < length words → name_number x ≡ name_number (get_or words i 0)
     → (key : ℕ) → name_number (get_or (set words i x) key 0) ≡ name_number (get_or words key 0)
-names_kept words i x l same key = dite (ℕ_discrete key i)
-    (λ e. cc (get_or-set_same words i x 0 l))
-    (λ ne. ap name_number (get_or-set_other words i key x 0 ne))
+names_kept words i x l same key = search (arith, get_or-set_same, get_or-set_other)
 
 pub names_behind : (words : List ℕ) (keys i x : ℕ) → keys ≤ i → (key : ℕ) → key < keys
     → get_or (set words i x) key 0 ≡ get_or words key 0
@@ -90,8 +90,7 @@ module _ {A : Type 0} {role : A → Role} {marks : A → Marks} {shape : Shape} 
       → SameContents shape words (operated words operation)
       → tells (get_or words (target_of operation) 0) after (log ++ entries) now []
       → Remarked role marks shape words callers log id operation me after entries tells
-  reader_step {operation = operation} {words = words} {callers = callers} {log = log} m at {reader = reader} {x = x}
-      {y = y} was {after = after} {entries = entries} is names quiet now
+  reader_step {operation} {tells} {words} {callers} {log} m at {reader} {x} {y} was {after} {entries} is names quiet now
       same_polls moves holds contents told =
       let evolves : (who : A) → role who ≡ after → marks who ≡ now → Evolves role marks me who
       = λ who is_role is_marks c z e.
@@ -181,3 +180,55 @@ module _ {A : Type 0} (role : A → Role) (marks : A → Marks) (shape : Shape) 
             finish (On t.0 t.1 false) (reply.Rows t.1) refl t.5 t.6 (λ slot on. t.2 ∙ ap suc (some_is t.0 slot on))
         | inr t ↦ finish Nothing reply.Hole refl t.1 t.2 (λ slot on. absurd (cc))
       ]
+
+-- A look-up, and a hold of the slot that a key names: the reader's marks go along.
+
+module _ {A : Type 0} (role : A → Role) (marks : A → Marks) (shape : Shape) (id : ℕ) (me : A) (known : List Past) where
+  pub looks_up_marked : (reader key : ℕ) → role me ≡ Reader reader Nothing
+      → CanMark role marks shape id me known (Load key) (LooksUp reader key) (LooksUpMarks (marks me) key)
+  looks_up_marked reader key was words callers log core m once at since after entries ans =
+      let word : ℕ = get_or words key 0 in
+      let looked : Marks = with_look (marks me) key (name_number word) in
+      let e = entry reader (model.Find key) reply.Hole in
+      let finish : (now : Marks) → QuietEnd log entries → now.polls ≡ (marks me).polls
+      → ((now.acts ≡ (marks me).acts) × (now.put ≡ (marks me).put)) ⊎ ((marks me).acts < now.acts)
+      → now ≡ cond (is_filled word) looked (acted looked (put_number (log ++ entries) key))
+      → Remarked role marks shape words callers log id (Load key) me after entries (LooksUpMarks (marks me) key)
+      = λ now ends polls moves told. reader_step m at was ans.0
+      (λ k _. ap (λ l. name_number (get_or l k 0)) (set-get_or words key 0)) ends now polls
+      (⊎_elim (λ (s : (now.acts ≡ (marks me).acts) × (now.put ≡ (marks me).put)). inl (refl, s.0, s.1)) inr moves)
+      (λ j s u desk there writes t on. absurd (cc)) (contents_loaded shape words key) (told, refl) in
+      either (is_filled word)
+      (λ full. finish looked
+      (none_end log entries (ans.1 ∙ ap (λ (b : Bool). cond {A = List Entry} b [] (e ∷ [])) full)) refl
+      (inl (refl, refl))
+      (sym (ap (λ (b : Bool). cond {A = Marks} b looked (acted looked (put_number (log ++ entries) key))) full)))
+      (λ empty. finish (acted looked (put_number (log ++ entries) key))
+      (one_ends log entries e (ans.1 ∙ ap (λ (b : Bool). cond {A = List Entry} b [] (e ∷ [])) empty) refl) refl
+      (inr (omega arith))
+      (sym (ap (λ (b : Bool). cond {A = Marks} b looked (acted looked (put_number (log ++ entries) key))) empty)))
+
+  pub holds_named_marked : (reader key slot : ℕ) → key < shape.keys → role me ≡ Reader reader Nothing
+      → CanMarkWhere role marks shape id me known (Add (departures shape slot) (2 ^ 64 - 1))
+      (λ words. name_number (get_or words key 0) ≡ suc slot) (HoldsNamed shape reader slot key)
+      (HoldsNamedMarks (marks me) key slot)
+  holds_named_marked reader key slot near was words callers log core m names once at since after entries ans =
+      let i : ℕ = departures shape slot in
+      let word : ℕ = get_or words i 0 in
+      let x : ℕ = (word + (2 ^ 64 - 1)) % 2 ^ 64 in
+      let rows = ans.0 in
+      let e = entry reader (model.Find key) (reply.Rows rows) in
+      let now = acted (with_look (marks me) key (suc slot)) (put_number (log ++ entries) key) in
+      let ends = one_ends log entries e ans.4 refl in
+      reader_step m at was ans.3
+      (λ k l. ap name_number (names_behind words shape.keys i x (omega arith) k l)) ends now refl (inr (omega arith))
+      (λ j s u desk there writes t on.
+      let same = some_is slot s on in
+      let named : name_number (get_or words key 0) ≡ suc s = names ∙ ap suc same in
+      let kept = t.puts key s near named in (
+        (kept.0 ∙ sym (ends.0 key), kept.1),
+        λ l. absurd
+            (let r = rests role marks shape words callers log j u desk s core there writes l in
+            omega (arith, is_named shape words key s near named)),
+      ))
+      (contents_counted shape words slot x) (refl, refl)

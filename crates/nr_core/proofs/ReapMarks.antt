@@ -28,10 +28,10 @@ use Rattle.nr_core.specs.Marked.{Sweeping}
 use Rattle.nr_core.specs.MarkSteps.{ProbesMarks}
 use Rattle.nr_core.proofs.ListPlaces.{at_maps, no_places}
 use Rattle.nr_core.proofs.MarksSince.{rests}
-use Rattle.nr_core.proofs.DeskMarks.{desk_of, load_stays, writer_step}
+use Rattle.nr_core.proofs.LookMarks.{desk_of, load_stays, writer_step}
 use Rattle.nr_core.proofs.Holders.{alone_more, holder_of, noted, present_more, since_more, tells_missed}
 use Rattle.nr_core.proofs.SwapMarks.{grips_it}
-use Rattle.nr_core.proofs.Poll.{nobody_holds}
+use Rattle.nr_core.proofs.Settle.{nobody_holds}
 use Rattle.nr_core.proofs.PutNumbers.{none_end}
 use Rattle.nr_core.proofs.Choices.{either}
 

@@ -1,6 +1,6 @@
 -- The marks of the first caller, of one more caller, and of one whose view changes beside its role.
-use Rattle.std.proofs.Common.{List, [], ap, arith, get_or, inl, refl, set, subst, suc, sym, zero, ℕ, ⊎_elim, ◌++◌, ◌<◌}
-use Rattle.std.proofs.Common.{◌∙◌, ◌∷◌, ◌≡◌, ◌⊎◌}
+use Rattle.std.proofs.Common.{List, [], ap, arith, get_or, refl, set, subst, suc, sym, zero, ℕ, ⊎_elim, ◌++◌, ◌<◌, ◌∙◌}
+use Rattle.std.proofs.Common.{◌∷◌, ◌≡◌, ◌⊎◌}
 use Rattle.std.proofs.lemmas.List.{length-replicate}
 use Rattle.std.specs.Prelude.{None, Some, replicate}
 use lib.ListN.{get_elem?}
@@ -115,9 +115,7 @@ module _ {A : Type 0} (role : A → Role) (marks : A → Marks) where
     reader_marks reader grip reads = ⊎_elim (λ e. e) (λ e. absurd (not_reader me Note reader grip refl e reads)) alike
 
     pub evolves_alike : Evolves role marks me next
-    evolves_alike reader grip reads =
-        let e = reader_marks reader grip reads in
-        (grip, same ∙ reads, inl (refl, ap (λ (k : Marks). k.acts) e, ap (λ (k : Marks). k.put) e))
+    evolves_alike reader grip reads = search (arith, reader_marks)
 
     -- a view that changes and keeps its role, and its marks but the loads if it is a caller's
     pub alike_marked : Marked role marks shape words callers log

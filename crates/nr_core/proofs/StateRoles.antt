@@ -1,8 +1,8 @@
 -- The roles of a state's callers: the writer first, then the readers, who know the set that they found beside what they
 -- hold.
 use Rattle.std.proofs.Common.{Bool, List, [], ap, append-nil, arith, cond, eq-eqb, get_or, get_or-set_other, sym, ◌-◌}
-use Rattle.std.proofs.Common.{get_or-set_same, length, length-set, ne_eqb, refl, set, subst, suc, ℕ, ⊎_elim, ◌++◌, ◌+◌}
-use Rattle.std.proofs.Common.{◌<◌, ◌∙◌, ◌∷◌, ◌≡◌, ◌≢◌, ◌≤◌, nat_eq}
+use Rattle.std.proofs.Common.{get_or-set_same, length, length-set, ne_eqb, refl, set, subst, suc, ℕ, ◌++◌, ◌+◌, ◌<◌}
+use Rattle.std.proofs.Common.{◌∙◌, ◌∷◌, ◌≡◌, ◌≢◌, ◌≤◌, nat_eq}
 use Rattle.std.specs.Prelude.{None, Some}
 use lib.ListN.{get_elem?}
 use mathlib.Core.Logic.{dite}
@@ -32,7 +32,6 @@ use Rattle.nr_core.proofs.Holders.{same_grip}
 use Rattle.nr_core.specs.declared.places.Hold.TheVariants as hold
 use Rattle.nr_model.specs.declared.calls.Call.TheVariants as model
 use Rattle.nr_model.specs.declared.calls.Reply.TheVariants as reply
-use Rattle.nr_core.specs.declared.calls.WReply.TheVariants as writer
 
 abbrev pub erased : Grip → Hold
 erased Nothing = hold.Nothing
@@ -103,11 +102,7 @@ pub record IsCoreState (state : State) (log : List Entry) : Type 0 where
 
 pub found_quiet : (log es : List Entry) (c : ℕ) (rows : List Row) → entries_of es c ≡ [] → Found log c rows
     → Found (log ++ es) c rows
-found_quiet log es c rows none f = (
-  f.0,
-  f.1,
-  of-append c log es ∙ ap (λ (l : List Entry). entries_of log c ++ l) none ∙ append-nil (entries_of log c) ∙ f.2,
-)
+found_quiet log es c rows none f = search (arith, f.0, f.1, of-append, append-nil, f.2)
 
 pub no_grip : (s : ℕ) (rows : List Row) (b : Bool) → Nothing ≡ On s rows b → ⊥
 no_grip s rows b e = cc
@@ -120,22 +115,11 @@ pub found_set : (roles : List Role) (log es : List Entry) (i : ℕ) (x : Grip) �
     → ((j : ℕ) → j ≢ i → entries_of es (suc j) ≡ [])
     → ((s : ℕ) (rows : List Row) (b : Bool) → x ≡ On s rows b → Found (log ++ es) (suc i) rows)
     → AllFound (set roles (suc i) (Reader (suc i) x)) (log ++ es)
-found_set roles log es i x all quiet own j s rows b e =
-    ⊎_elim {A = (suc j ≡ suc i) × (Reader (suc i) x ≡ Reader (suc j) (On s rows b))} {B = (suc j ≢ suc i)
-    × (get_elem? roles (suc j) ≡ some (Reader (suc j) (On s rows b)))}
-    (λ t.
-    let is : i ≡ j = omega (arith, t.0) in
-    subst (λ (n : ℕ). Found (log ++ es) (suc n) rows) is
-    (own s rows b (same_grip t.1)))
-    (λ t. found_quiet log es (suc j) rows (quiet j (λ z. t.0 (ap suc z))) (all j s rows b t.1))
-    (at_set roles (suc i) (suc j) (Reader (suc i) x) (Reader (suc j) (On s rows b)) e)
+found_set roles log es i x all quiet own j s rows b e = search (arith, same_grip, found_quiet, at_set)
 
 pub found_writer : (roles : List Role) (log es : List Entry) (desk : Desk) → AllFound roles log
     → ((c : ℕ) → entries_of es c ≡ cond (nat_eq 0 c) es []) → AllFound (set roles 0 (Writer desk)) (log ++ es)
-found_writer roles log es desk all own j s rows b e =
-    found_quiet log es (suc j) rows (own (suc j) ∙ ap (λ b. cond b es []) (ne_eqb 0 (suc j) (λ z. omega arith)))
-    (⊎_elim (λ (t : (suc j ≡ 0) × (Writer desk ≡ Reader (suc j) (On s rows b))). absurd (omega (arith, t.0)))
-    (λ t. all j s rows b t.1) (at_set roles 0 (suc j) (Writer desk) (Reader (suc j) (On s rows b)) e))
+found_writer roles log es desk all own j s rows b e = search (arith, found_quiet, ne_eqb, at_set)
 
 -- the set that a reader found last
 pub found_of : (state : State) (log : List Entry) (is_core : IsCoreState state log) (r : ℕ) → 0 < r → (s : ℕ)

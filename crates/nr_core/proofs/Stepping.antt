@@ -14,7 +14,7 @@ use Rattle.nr_core.specs.declared.roles.Grip.{Grip}
 use Rattle.nr_core.specs.declared.roles.Role.{Role}
 use Rattle.nr_core.specs.declared.roles.Role.TheVariants.{Reader, Writer}
 use Rattle.nr_core.specs.declared.shape.Shape.{Shape}
-use Rattle.nr_core.proofs.OffKeys.{none_of}
+use Rattle.nr_core.proofs.OnKey.{none_of}
 
 abbrev Tells : List ℕ → Operation → Telling → Role → List Entry → Type 0
 Tells words operation tells role entries = tells (get_or words (target_of operation) 0) role entries
@@ -29,16 +29,9 @@ module _ {shape : Shape} {words : List ℕ} {roles : List Role} {log : List Entr
       → is_writer after ≡ is_writer before → is_reader after ≡ is_reader before
       → CoreWith shape words roles id operation after log → Tells words operation tells after []
       → Stepped shape words roles log id before operation tells
-  quiet {before} after same writer reader core told = record {
-    after = after;
-    entries = [];
-    core = rw (append-nil log) core;
-    same = same;
-    writer = writer;
-    reader = reader;
-    own = λ caller. none_of (is_by caller before);
-    told = told;
-  }
+  quiet after same writer reader core told =
+      let here : CoreWith shape words roles id operation after (log ++ []) = rw (append-nil log) core in
+      search (here, told, none_of)
 
   -- the caller's role stays, and it tells nothing
   pub stays_quiet : {role : Role} → CoreWith shape words roles id operation role log
@@ -55,32 +48,14 @@ module _ {shape : Shape} {words : List ℕ} {roles : List Role} {log : List Entr
         → CoreWith shape words roles id operation (Reader reader after) (log ++ entry reader call answer ∷ [])
         → Tells words operation tells (Reader reader after) (entry reader call answer ∷ [])
         → Stepped shape words roles log id (Reader reader before) operation tells
-    reader_tells call answer core told = record {
-      after = Reader reader after;
-      entries = entry reader call answer ∷ [];
-      core = core;
-      same = λ _. refl;
-      writer = refl;
-      reader = refl;
-      own = λ _. refl;
-      told = told;
-    }
+    reader_tells call answer core told = search (core, told)
 
   pub writer_makes : {desk : Desk} (after : Desk) (entries : List Entry)
       → CoreWith shape words roles id operation (Writer after) (log ++ entries)
       → ((caller : ℕ) → entries_of entries caller ≡ cond (nat_eq 0 caller) entries [])
       → Tells words operation tells (Writer after) entries
       → Stepped shape words roles log id (Writer desk) operation tells
-  writer_makes after entries core own told = record {
-    after = Writer after;
-    entries = entries;
-    core = core;
-    same = λ _. refl;
-    writer = refl;
-    reader = refl;
-    own = own;
-    told = told;
-  }
+  writer_makes after entries core own told = search (core, own, told)
 
 -- the core state after a step, by the role and the entries that it tells
 pub core_after : {shape : Shape} {words : List ℕ} {roles : List Role} {log : List Entry} {id : ℕ} {role : Role}

@@ -1,15 +1,15 @@
 -- The exact place of a no-slot, from what the tokens say once every reader was gathered. The strays are the retired put
 -- numbers that are pinned (strays_are): all of them where a sweep found each retired slot held and no reader moved
 -- since (all_strays), fewer where a retired slot was taken (one_not_stray).
-use Rattle.std.proofs.Common.{List, [], ap, arith, cond, eq-eqb, get_or, inr, length, nat_eq, ne_eqb, refl, subst, suc}
-use Rattle.std.proofs.Common.{sym, zero, ℕ, ⊎_elim, ◌+◌, ◌<◌, ◌∙◌, ◌∷◌, ◌≡◌, ◌≤◌}
+use Rattle.std.proofs.Common.{List, [], ap, arith, get_or, inr, length, ◌-◌, refl, subst, suc, sym, zero, ℕ, ⊎_elim}
+use Rattle.std.proofs.Common.{◌+◌, ◌<◌, ◌∙◌, ◌∷◌, ◌≡◌, ◌≤◌}
 use Rattle.std.specs.List.{cons_option}
 use Rattle.std.specs.Prelude.{None, Option, Some, option_map}
 use lib.ListN.{get_elem?}
 use mathlib.Core.Logic.{dite}
 use mathlib.Core.Option.{some, some-injective, some-ne-none}
 use native.Mathlib.Decide.{ℕ_discrete}
-use Rattle.nr_core.proofs.Sums.{only-is, only-other, only-same, some_term, term_le, total-zero}
+use Rattle.nr_core.proofs.Sums.{got_at, only-is, only-other, only-same, some_term, term_le, total-zero}
 use Rattle.nr_core.specs.Sums.{only, total}
 use Rattle.nr_core.specs.declared.places.Retired.{Retired}
 use Rattle.nr_model.specs.Strays.{strays}
@@ -17,50 +17,20 @@ use Rattle.nr_core.specs.Marks.{Marks, Past}
 use Rattle.nr_core.specs.PollNotes.{AllHeld}
 use Rattle.nr_core.specs.Pasts.{AllCurrent, Living}
 use Rattle.nr_core.specs.Exact.{Tidy, named_puts, pinned_put, pins, retired_puts}
-use Rattle.nr_core.proofs.HowOften.{count_is, how_often, stray_count, strays_count}
+use Rattle.nr_core.proofs.Tidy.{count_is, how_often, named_often, stray_count, strays_count}
 use Rattle.nr_core.proofs.ListPlaces.{at_maps, at_unmap}
 use Rattle.std.proofs.lemmas.List.{length-map}
 
 -- 1 where the number stands in the list
 abbrev stands : List ℕ → ℕ → ℕ
-stands l r = cond (nat_eq (how_often r l) 0) 0 1
+stands l r = 1 - (1 - how_often r l)
 
-stands-none : (l : List ℕ) (r : ℕ) → how_often r l ≡ 0 → stands l r ≡ 0
-stands-none l r z = ap (λ b. cond b 0 1) (eq-eqb (how_often r l) 0 z)
-
-stands-some : (l : List ℕ) (r : ℕ) → 0 < how_often r l → stands l r ≡ 1
-stands-some l r z = ap (λ b. cond b 0 1) (ne_eqb (how_often r l) 0 (λ e. omega arith))
-
-stands-le : (l : List ℕ) (r : ℕ) → stands l r ≤ 1
-stands-le l r =
-    dite (ℕ_discrete (how_often r l) 0) (λ z. let m = stands-none l r z in omega arith)
-    (λ nz. let m = stands-some l r (omega arith) in omega arith)
-
--- one number more that is new adds the places where it stands
-stands-new : (qs rs : List ℕ) (q : ℕ) → how_often q qs ≡ 0
-    → total (stands (q ∷ qs)) rs ≡ total (stands qs) rs + how_often q rs
-stands-new qs [] q z = refl
-stands-new qs (r ∷ rs) q z = let t = stands-new qs rs q z in dite (ℕ_discrete r q)
-    (λ e.
-    let a : stands qs r ≡ 0 = stands-none qs r (ap (λ (y : ℕ). how_often y qs) e ∙ z) in
-    let o : only q r ≡ 1 = ap (only q) e ∙ only-same q in
-    let o' : only r q ≡ 1 = ap (λ (y : ℕ). only y q) e ∙ only-same q in
-    let b = stands-some (q ∷ qs) r (omega arith) in omega arith)
-    (λ ne. let o = only-other q r ne in let o' = only-other r q (λ e. ne (sym e)) in
-    let same : how_often r (q ∷ qs) ≡ how_often r qs = omega arith in
-    omega (arith, ap (λ (y : ℕ). cond {A = ℕ} (nat_eq y 0) 0 1) same))
-
--- one that stands there already adds nothing
-stands-old : (qs rs : List ℕ) (q : ℕ) → 0 < how_often q qs → total (stands (q ∷ qs)) rs ≡ total (stands qs) rs
-stands-old qs [] q z = refl
-stands-old qs (r ∷ rs) q z = let t = stands-old qs rs q z in dite (ℕ_discrete r q)
-    (λ e.
-    let p : how_often r qs ≡ how_often q qs = ap (λ (y : ℕ). how_often y qs) e in
-    let a = stands-some qs r (omega arith) in
-    omega (arith, stands-some (q ∷ qs) r (omega arith)))
-    (λ ne. let o' = only-other r q (λ e. ne (sym e)) in
-    let same : how_often r (q ∷ qs) ≡ how_often r qs = omega arith in
-    omega (arith, ap (λ (y : ℕ). cond {A = ℕ} (nat_eq y 0) 0 1) same))
+-- one number more adds the places where it stands if it is new, and nothing if it isn't
+stands-more : (qs rs : List ℕ) (q : ℕ)
+    → (how_often q qs ≡ 0 → total (stands (q ∷ qs)) rs ≡ total (stands qs) rs + how_often q rs)
+    × (0 < how_often q qs → total (stands (q ∷ qs)) rs ≡ total (stands qs) rs)
+stands-more qs [] q = (λ _. refl, λ _. refl)
+stands-more qs (r ∷ rs) q = search (arith, stands-more qs rs q, only-same, only-other)
 
 -- the strays are the retired put numbers that are pinned
 strays_are : (keys rs qs : List ℕ) → ((q : ℕ) → how_often q keys + how_often q rs ≤ 1)
@@ -68,39 +38,26 @@ strays_are : (keys rs qs : List ℕ) → ((q : ℕ) → how_often q keys + how_o
     → stray_count keys qs ≡ total (stands qs) rs
 strays_are keys rs [] once cover = sym (total-zero rs)
 strays_are keys rs (q ∷ qs) once cover =
-    let t = strays_are keys rs qs once (λ i r e. cover (suc i) r e) in
+    let more = stands-more qs rs q in
+    let rest = strays_are keys rs qs once (λ i r e. cover (suc i) r e) in
     let a = once q in
     let b = cover 0 q refl in
-    let head : (n : ℕ) → how_often q qs + how_often q keys ≡ n
-    → cond {A = ℕ} (nat_eq (how_often q qs + how_often q keys) 0) 1 0 ≡ cond (nat_eq n 0) 1 0
-    = λ n e. ap (λ (y : ℕ). cond {A = ℕ} (nat_eq y 0) 1 0) e in
-    dite (ℕ_discrete (how_often q qs) 0)
-    (λ z.
-    let m = stands-new qs rs q z in
-    dite (ℕ_discrete (how_often q keys) 0) (λ y. let c = head 0 (omega arith) in omega arith)
-    (λ ny. let c = head 1 (omega arith) in omega arith))
-    (λ nz.
-    let m = stands-old qs rs q (omega arith) in
-    let c = ap (λ d. cond {A = ℕ} d 1 0) (ne_eqb (how_often q qs + how_often q keys) 0 (λ e. omega arith)) in
-    omega arith)
+    dite (ℕ_discrete (how_often q qs) 0) (λ new. omega (arith, more.0 new)) (λ old. omega (arith, more.1 (omega arith)))
 
 all_stand : (qs rs : List ℕ) → ((i r : ℕ) → get_elem? rs i ≡ some r → 0 < how_often r qs)
     → total (stands qs) rs ≡ length rs
 all_stand qs [] h = refl
-all_stand qs (r ∷ rs) h =
-    omega (arith, all_stand qs rs (λ i x e. h (suc i) x e), stands-some qs r (h 0 r refl))
+all_stand qs (r ∷ rs) h = omega (arith, all_stand qs rs (λ i x e. h (suc i) x e), h 0 r refl)
 
 some_stand : (qs rs : List ℕ) → total (stands qs) rs ≤ length rs
 some_stand qs [] = omega arith
-some_stand qs (r ∷ rs) = let t = some_stand qs rs in let m = stands-le qs r in omega arith
+some_stand qs (r ∷ rs) = omega (arith, some_stand qs rs)
 
 one_less : (qs rs : List ℕ) (p r : ℕ) → get_elem? rs p ≡ some r → how_often r qs ≡ 0 → total (stands qs) rs < length rs
 one_less qs [] p r e z = absurd (some-ne-none r (sym e))
 one_less qs (x ∷ rs) zero r e z =
-    let t = some_stand qs rs in
-    let m = stands-none qs x (ap (λ (y : ℕ). how_often y qs) (some-injective x r e) ∙ z) in
-    omega arith
-one_less qs (x ∷ rs) (suc p) r e z = let t = one_less qs rs p r e z in let m = stands-le qs x in omega arith
+    omega (arith, some_stand qs rs, ap (λ (y : ℕ). how_often y qs) (some-injective x r e))
+one_less qs (x ∷ rs) (suc p) r e z = omega (arith, one_less qs rs p r e z)
 
 length-retired_puts : (puts : List ℕ) (l : List Retired) → length (retired_puts puts l) ≡ length l
 length-retired_puts puts l = length-map l (λ (x : Retired). get_or puts x.slot 0)
@@ -110,28 +67,16 @@ abbrev PinnedBy : List Past → ℕ → Type 0
 PinnedBy readers q =
     (n : ℕ) × (p : Past) × (slot : ℕ) × (get_elem? readers n ≡ some p) × (p.slot ≡ Some slot) × (p.put ≡ q)
 
-pinned_later : (p : Past) (ps : List Past) (q : ℕ) → PinnedBy ps q → PinnedBy (p ∷ ps) q
-pinned_later p ps q t = (suc t.0, t.1, t.2, t.3, t.4, t.5)
-
-pinned_first : (p : Past) (ps : List Past) (q slot : ℕ) → p.slot ≡ Some slot
-    → ((j : ℕ) → get_elem? (pins ps) j ≡ some q → PinnedBy ps q) → (j : ℕ) → get_elem? (p.put ∷ pins ps) j ≡ some q
-    → PinnedBy (p ∷ ps) q
-pinned_first p ps q slot is rec zero e = (0, p, slot, refl, is, some-injective p.put q e)
-pinned_first p ps q slot is rec (suc j) e = pinned_later p ps q (rec j e)
-
-pinned_go : (p : Past) (ps : List Past) (q : ℕ) → ((j : ℕ) → get_elem? (pins ps) j ≡ some q → PinnedBy ps q)
-    → (x : Option ℕ) → p.slot ≡ x → (j : ℕ)
-    → get_elem? (cons_option (option_map (λ slot. p.put) p.slot) (pins ps)) j ≡ some q → PinnedBy (p ∷ ps) q
-pinned_go p ps q rec None is j e =
-    pinned_later p ps q
-    (rec j (ap (λ b. get_elem? (cons_option (option_map (λ slot. p.put) b) (pins ps)) j) (sym is) ∙ e))
-pinned_go p ps q rec (Some slot) is j e =
-    pinned_first p ps q slot is rec j
-    (ap (λ b. get_elem? (cons_option (option_map (λ slot. p.put) b) (pins ps)) j) (sym is) ∙ e)
-
 pinned_by : (readers : List Past) (i q : ℕ) → get_elem? (pins readers) i ≡ some q → PinnedBy readers q
 pinned_by [] i q e = absurd (some-ne-none q (sym e))
-pinned_by (p ∷ ps) i q e = pinned_go p ps q (λ j e'. pinned_by ps j q e') p.slot refl i e
+pinned_by (p ∷ ps) i q e =
+    first (λ j e'. let t = pinned_by ps j q e' in (suc t.0, t.1, t.2, t.3, t.4, t.5)) p.slot refl i e
+  where
+    first : ((j : ℕ) → get_elem? (pins ps) j ≡ some q → PinnedBy (p ∷ ps) q) → (x : Option ℕ) → p.slot ≡ x → (j : ℕ)
+        → get_elem? (cons_option (option_map (λ slot. p.put) x) (pins ps)) j ≡ some q → PinnedBy (p ∷ ps) q
+    first later None is j e = later j e
+    first later (Some slot) is zero e = (0, p, slot, refl, is, some-injective p.put q e)
+    first later (Some slot) is (suc j) e = later j e
 
 -- a reader that holds has pinned its put number
 pins_it : (readers : List Past) (n : ℕ) (p : Past) (slot : ℕ) → get_elem? readers n ≡ some p → p.slot ≡ Some slot
@@ -149,13 +94,7 @@ pins_it (x ∷ xs) (suc n) p slot e is = let t = pins_it xs n p slot e is in mor
 
 named_at : (puts names : List ℕ) (i slot : ℕ) → i < length names → get_or names i 0 ≡ suc slot
     → 0 < how_often (get_or puts slot 0) (named_puts puts names)
-named_at puts [] i slot l e = absurd (omega arith)
-named_at puts (zero ∷ names) zero slot l e = absurd (omega arith)
-named_at puts (zero ∷ names) (suc i) slot l e = named_at puts names i slot (omega arith) e
-named_at puts (suc t ∷ names) zero slot l e = let same : t ≡ slot = omega arith in
-    let o = ap (λ (y : ℕ). only (get_or puts slot 0) (get_or puts y 0)) same
-    ∙ only-same (get_or puts slot 0) in omega arith
-named_at puts (suc t ∷ names) (suc i) slot l e = let r = named_at puts names i slot (omega arith) e in omega arith
+named_at puts names i slot l e = search (arith, named_often, term_le, got_at, only-same)
 
 retired_put_at : (puts : List ℕ) (retired : List Retired) (i : ℕ) (entry : Retired) → get_elem? retired i ≡ some entry
     → get_elem? (retired_puts puts retired) i ≡ some (get_or puts entry.slot 0)
@@ -196,9 +135,7 @@ module _ (retired : List Retired) (marks : Marks) (next : ℕ) (readers : List P
 
   -- there are never more strays than retired slots
   pub strays_most : strays (named_puts marks.puts marks.names) (pins readers) ≤ length retired
-  strays_most =
-      let c = length-retired_puts marks.puts retired in
-      omega (arith, counted, some_stand (pins readers) (retired_puts marks.puts retired))
+  strays_most = search (arith, length-retired_puts, counted, some_stand)
 
   -- a sweep found every retired slot held by a reader that has not moved since: each retired set is pinned
   pub all_strays : AllHeld retired marks.polls → Still marks.polls readers

@@ -71,10 +71,7 @@ pub only-is : (k x : ℕ) → 0 < only k x → x ≡ k
 only-is k x h = dite (ℕ_discrete x k) (λ e. e) (λ ne. absurd (omega (arith, only-other k x ne)))
 
 pub only-suc : (s t : ℕ) → only (suc s) (suc t) ≡ only s t
-only-suc s t =
-    dite (ℕ_discrete t s)
-    (λ e. cc (eq-eqb (suc t) (suc s) (ap suc e), eq-eqb t s e))
-    (λ ne. only-other (suc s) (suc t) (λ e. ne (omega arith)) ∙ sym (only-other s t ne))
+only-suc s t = search (arith, eq-eqb, only-other)
 
 pub only-zero : (s : ℕ) → only (suc s) 0 ≡ 0
 only-zero s = only-other (suc s) 0 (λ e. omega arith)
@@ -157,13 +154,7 @@ module _ {A : Type 0} where
 
 pub below-only : (x n : ℕ) → (x < n → below (λ c. only c x) n ≡ 1) × (n ≤ x → below (λ c. only c x) n ≡ 0)
 below-only x zero = ((λ h. absurd (omega arith)), λ _. refl)
-below-only x (suc n) = let before = below-only x n in dite (ℕ_discrete x n)
-    (λ e.
-    let one : only n x ≡ 1 = ap (only n) e ∙ only-same n in
-    ((λ h. omega (arith, before.1 (omega arith))), λ h. absurd (omega arith)))
-    (λ ne.
-    let none = only-other n x ne in
-    ((λ h. omega (arith, before.0 (omega arith))), λ h. omega (arith, before.1 (omega arith))))
+below-only x (suc n) = search (arith, below-only x n, only-same, only-other)
 
 pub below-first : (f : ℕ → ℕ) (n : ℕ) → below f (suc n) ≡ f 0 + below (λ k. f (suc k)) n
 below-first f zero = omega arith

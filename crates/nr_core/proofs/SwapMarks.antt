@@ -41,8 +41,7 @@ use Rattle.nr_core.specs.MarkSteps.{KeepsMarks, PublishesMarks, UnpublishesMarks
 use Rattle.nr_core.proofs.ListPlaces.{at_maps, no_places, some_is}
 use Rattle.nr_core.proofs.PutNumbers.{count_more, put_more, quiet_count, quiet_number, QuietEnd, nothing_ends}
 use Rattle.nr_core.proofs.ReaderMarks.{names_behind, names_kept, contents_behind}
-use Rattle.nr_core.proofs.LookMarks.{none_hold}
-use Rattle.nr_core.proofs.DeskMarks.{desk_keep, desk_of, desk_stay, writer_step, Went}
+use Rattle.nr_core.proofs.LookMarks.{none_hold, desk_keep, desk_of, desk_stay, writer_step, Went}
 use Rattle.nr_core.proofs.MarksSince.{SameContents}
 use Rattle.nr_core.proofs.Frames.{spells_more, stands_at}
 use Rattle.nr_core.proofs.Swap.{unnamed_sum}

@@ -8,8 +8,6 @@ use Rattle.std.proofs.Common.{ℕ, ◌%◌, ◌*◌, ◌++◌, ◌+◌, ◌-◌,
 use Rattle.std.proofs.lemmas.Bool.{eqb-false, eqb-true}
 use Rattle.std.proofs.lemmas.List.{drop_more, length-append, map-append, take_more}
 use Rattle.std.specs.Prelude.{None, nat_le, nat_lt}
-use mathlib.Core.Logic.{dite}
-use native.Mathlib.Decide.{ℕ_discrete}
 use Rattle.nr_model.specs.Histories.{Entry}
 use Rattle.nr_model.specs.Maps.{state_of}
 use Rattle.nr_words.specs.KeyWords.{is_filled, same_count, slot_of}
@@ -40,7 +38,7 @@ use Rattle.nr_core.specs.declared.shape.Shape.{Shape}
 use Rattle.nr_core.proofs.Frames.{stands_at}
 use Rattle.nr_model.specs.declared.states.KeyState.{KeyState}
 use Rattle.nr_core.proofs.Guards.{at_reader, at_reader_key}
-use Rattle.nr_core.proofs.Outcomes.{OfOutcomes, ShownBy, looked_has, read_has}
+use Rattle.nr_core.proofs.Without.{OfOutcomes, ShownBy, looked_has, read_has}
 use Rattle.nr_core.specs.declared.places.Hold.TheVariants as hold
 
 -- 1 where the hold is of none of the slots
@@ -81,16 +79,8 @@ polled_clear : (entry : Retired) (later : List Retired) (holds : List Hold) → 
     → total (clear_of (entry ∷ later)) holds + total (on entry.slot) holds ≤ total (clear_of later) holds
 polled_clear entry later [] once = omega arith
 polled_clear entry later (hold.Nothing ∷ holds) once = omega (arith, polled_clear entry later holds once)
-polled_clear entry later (hold.On slot size ∷ holds) once = let more = polled_clear entry later holds once in
-    dite (ℕ_discrete slot entry.slot)
-    (λ e. omega (
-      arith,
-      ap (λ (s : ℕ). retirements s later) e,
-      ap (λ (s : ℕ). only s entry.slot) e,
-      only-same entry.slot,
-      only-le entry.slot slot,
-    ))
-    (λ ne. omega (arith, only-other entry.slot slot ne))
+polled_clear entry later (hold.On slot size ∷ holds) once =
+    search (arith, polled_clear entry later holds once, only-same, only-le, only-other)
 
 -- a slot that a key names is not retired
 named_not_retired : (state : State) (log : List Entry) → IsCoreState state log → (key slot : ℕ)
@@ -204,17 +194,7 @@ module _ (holds : List Hold) (polls : List Poll) where
 
   good : (shape : Shape) (desk : Desk) → polls ≡ [] → (shown : KeyState → Type 0)
       → OfOutcomes shape desk shown (λ _. Good)
-  good shape desk none shown = record {
-    reads = λ _ _ _. none;
-    leaves = λ _. tt;
-    withdraws = λ _. tt;
-    replies = λ _ _ _. tt;
-    gives_up = λ _. tt;
-    takes = λ _ _. tt;
-    searches = λ _ _.
-        record { many = ap length none; slots = ap (map (λ (x : Poll). x.slot)) none; clear = omega arith };
-    none = λ _ _ _ _. tt;
-  }
+  good shape desk none shown = search (arith, none)
 
 some_holder : (s : ℕ) (l : List Hold) (r : ℕ) → 0 < total (on s) l → 0 < length (holders_from r s l)
 some_holder s [] r more = absurd (omega arith)

@@ -1,7 +1,7 @@
 -- In every state the writer's lists are as they should be: put numbers of named and retired slots differ, and the lists
--- agree with the history.
+-- agree with the history, so the put numbers that they give to the filled keys are the history's.
 use Rattle.std.proofs.Common.{List, [], ap, arith, false, get_or, length, map, refl, subst, suc, sym, true, zero, ℕ}
-use Rattle.std.proofs.Common.{⊎_elim, ◌<◌, ◌∙◌, ◌∷◌, ◌≡◌, ◌≤◌, ◌+◌}
+use Rattle.std.proofs.Common.{⊎_elim, ◌<◌, ◌∙◌, ◌∷◌, ◌≡◌, ◌≤◌, ◌+◌, ◌-◌, cond, nat_eq, Bool}
 use lib.ListN.{get_elem?}
 use mathlib.Core.Logic.{dite}
 use mathlib.Core.Option.{some, some-injective, some-ne-none}
@@ -11,7 +11,7 @@ use Rattle.nr_model.specs.Maps.{is_filled_key, state_of}
 use Rattle.nr_model.specs.declared.states.KeyState.{KeyState}
 use Rattle.nr_core.proofs.Counting.{named_inside, retired_once, taken_are}
 use Rattle.nr_core.proofs.KeyWords.{is_named}
-use Rattle.nr_core.proofs.Sums.{only-is, only-le, only-same, some_term, term_le, below-first, below-same}
+use Rattle.nr_core.proofs.Sums.{only-is, only-le, only-other, only-same, some_term, term_le, below-first, below-same}
 use Rattle.nr_core.specs.Core.{Core, ShowsState}
 use Rattle.nr_core.specs.Slots.{name_number, named}
 use Rattle.nr_core.specs.Story.{map_after}
@@ -21,14 +21,51 @@ use Rattle.nr_core.specs.declared.roles.Desk.{Desk}
 use Rattle.nr_core.specs.declared.roles.Role.{Role}
 use Rattle.nr_core.specs.declared.roles.Role.TheVariants.{Writer}
 use Rattle.nr_core.specs.declared.shape.Shape.{Shape}
-use Rattle.nr_core.specs.Puts.{put_count}
+use Rattle.nr_core.specs.Puts.{put_count, put_number}
 use Rattle.nr_core.specs.Marks.{Marks}
 use Rattle.nr_core.specs.Pasts.{Living}
 use Rattle.nr_core.specs.Marked.{Desked, lives}
-use Rattle.nr_core.specs.Exact.{Lists, Tidy, named_puts, retired_puts}
-use Rattle.nr_core.proofs.HowOften.{count_is, how_often}
+use Rattle.nr_core.specs.Exact.{Lists, Tidy, named_puts, retired_puts, filled_puts}
 use Rattle.nr_core.proofs.ListPlaces.{at_maps, inside}
+use Rattle.nr_model.proofs.HistoryLemmas.{count_by-cons}
+use Rattle.nr_model.specs.Strays.{count_of_put, strays, keyed}
+use Rattle.std.specs.List.{range_with_len}
+use Rattle.nr_core.proofs.Choices.{by_cases}
+use Rattle.nr_core.proofs.Histories.{length-now}
 use Rattle.nr_model.specs.declared.states.KeyState.TheVariants as key
+
+-- Counts in lists of put numbers as sums, and the strays by such counts.
+
+abbrev pub how_often : ℕ → List ℕ → ℕ
+how_often number numbers = total (only number) numbers
+
+pub count_is : (numbers : List ℕ) (number : ℕ) → count_of_put numbers number ≡ how_often number numbers
+count_is [] number = refl
+count_is (x ∷ xs) number =
+    omega (arith, count_is xs number, count_by-cons (λ other. nat_eq other number) x xs)
+
+-- the strays, counted so: 1 for a number that is none of the later ones' and no key's
+abbrev pub stray_count : List ℕ → List ℕ → ℕ
+stray_count keys [] = 0
+stray_count keys (q ∷ qs) = 1 - (how_often q qs + how_often q keys) + stray_count keys qs
+
+pub strays_count : (keys qs : List ℕ) → strays keys qs ≡ stray_count keys qs
+strays_count keys [] = refl
+strays_count keys (q ∷ qs) =
+    omega (
+      arith,
+      none (count_of_put qs q + count_of_put keys q),
+      strays_count keys qs,
+      count_is qs q,
+      count_is keys q,
+    )
+  where
+    none : (n : ℕ) → only 0 n ≡ 1 - n
+    none n =
+        dite (ℕ_discrete n 0) (λ z. omega (arith, ap (only 0) z)) (λ nz. omega (arith, only-other 0 n nz))
+
+-- In every state the writer's lists are as they should be: put numbers of named and retired slots differ, and the lists
+-- agree with the history.
 
 pub below-list : (f : ℕ → ℕ) (l : List ℕ) → total f l ≡ below (λ i. f (get_or l i 0)) (length l)
 below-list f [] = refl
@@ -90,9 +127,7 @@ module _ {A : Type 0} (role : A → Role) (marks : A → Marks) (shape : Shape) 
   there = at_maps role callers id me at ∙ ap some was
 
   name_at : (i n : ℕ) → get_elem? (marks me).names i ≡ some n → (i < shape.keys) × (name_number (get_or words i 0) ≡ n)
-  name_at i n e =
-      let near : i < shape.keys = omega (arith, inside (marks me).names i n e) in
-      (near, sym (own.names i near) ∙ at_or (marks me).names i n e)
+  name_at i n e = search (arith, inside, at_or)
 
   by_name : (i s : ℕ) → i < shape.keys → name_number (get_or words i 0) ≡ suc s
       → (s < shape.slots) × (0 < lives shape words desk s)
@@ -126,11 +161,7 @@ module _ {A : Type 0} (role : A → Role) (marks : A → Marks) (shape : Shape) 
   rests_with number = total (λ (x : Retired). only number (get_or (marks me).puts x.slot 0)) desk.retired
 
   named_so : (s : ℕ) → total (only (suc s)) (marks me).names ≡ named shape words s
-  named_so s =
-      below-list (only (suc s)) (marks me).names
-      ∙ ap (below (λ i. only (suc s) (get_or (marks me).names i 0))) own.wide.0
-      ∙ below-same (λ i. only (suc s) (get_or (marks me).names i 0))
-      (λ i. only (suc s) (name_number (get_or words i 0))) shape.keys (λ i l. ap (only (suc s)) (own.names i l))
+  named_so s = search (arith, below-list, below-same)
 
   -- a slot that lives and has the number is the only one
   only_it : (number s : ℕ) → (s < shape.slots) × (0 < lives shape words desk s) → get_or (marks me).puts s 0 ≡ number
@@ -156,16 +187,7 @@ module _ {A : Type 0} (role : A → Role) (marks : A → Marks) (shape : Shape) 
   )
 
   one_with : (number : ℕ) → names_with number + rests_with number ≤ 1
-  one_with number = dite (ℕ_discrete (names_with number) 0)
-      (λ z. dite (ℕ_discrete (rests_with number) 0) (λ z'. omega arith) (λ nz.
-      let u
-      = some_term (λ (x : Retired). only number (get_or (marks me).puts x.slot 0)) desk.retired (omega arith) in
-      only_it number u.1.slot (by_rest u.0 u.1 u.2) (only-is number (get_or (marks me).puts u.1.slot 0) u.3)))
-      (λ nz.
-      let t = some_term (name_has (marks me).puts number) (marks me).names (omega arith) in
-      let a = name_has-is (marks me).puts number t.1 t.3 in
-      let at = name_at t.0 t.1 t.2 in
-      only_it number a.0 (by_name t.0 a.0 at.0 (at.1 ∙ a.1)) a.2)
+  one_with number = search (arith, some_term, only_it, by_rest, only-is, name_has-is, name_at, by_name)
 
   pub tidy : Tidy desk.retired (marks me) (put_count log)
   tidy = record {
@@ -192,3 +214,71 @@ module _ {A : Type 0} (role : A → Role) (marks : A → Marks) (shape : Shape) 
           (own.puts i s l n).0,
         );
   }
+
+-- The put numbers that the writer's lists give to the filled keys are those of the history.
+
+-- the put numbers of the filled keys, of the states of the keys from `at` on
+abbrev puts_from : List Entry → ℕ → List KeyState → List ℕ
+puts_from log at states = keyed states (map (put_number log) (range_with_len at (length states)))
+
+-- 1 where the key is filled and has that put number
+abbrev key_has : List Entry → ℕ → Bool → ℕ → ℕ
+key_has log number filled at = cond filled (only number (put_number log at)) 0
+
+-- names that are of the filled keys, one by one, have their put numbers as often
+puts_from_often : (number : ℕ) (puts names : List ℕ) (log : List Entry) (at : ℕ) (states : List KeyState)
+    → length names ≡ length states
+    → ((i : ℕ) → i < length names → name_has puts number (get_or names i 0)
+    ≡ key_has log number (is_filled_key (get_or states i (key.Hole 0))) (at + i))
+    → total (name_has puts number) names ≡ how_often number (puts_from log at states)
+puts_from_often number puts [] log at [] size each = refl
+puts_from_often number puts [] log at (state ∷ states) size each = absurd (omega arith)
+puts_from_often number puts (name ∷ names) log at [] size each = absurd (omega arith)
+puts_from_often number puts (name ∷ names) log at (state ∷ states) size each =
+    let here = each 0 (omega arith) in
+    let at_first : at + 0 ≡ at = omega arith in
+    let first = ap (key_has log number (is_filled_key state)) at_first in
+    let later = puts_from_often number puts names log (at + 1) states (omega arith) (λ i low.
+    let shift : at + suc i ≡ at + 1 + i = omega arith in
+    each (suc i) (omega arith) ∙ ap (key_has log number (is_filled_key (get_or states i (key.Hole 0)))) shift) in
+    let head = by_cases
+    (λ b. how_often number
+    (cond b (put_number log at ∷ puts_from log (at + 1) states) (puts_from log (at + 1) states))
+    ≡ key_has log
+    number b at + how_often number (puts_from log (at + 1) states)) (is_filled_key state) (λ _. refl)
+    (λ _. omega arith) in
+    omega arith
+
+name_is_key : (desk : Desk) (marks : Marks) (shape : Shape) (log : List Entry) → Lists desk marks shape log
+    → (number at name : ℕ) → at < shape.keys
+    → get_or marks.names at 0 ≡ name
+    → name_has marks.puts number name ≡ key_has log number (is_filled_key (state_of (map_after shape log) at)) at
+name_is_key desk marks shape log lists number at zero near e =
+    sym (ap (λ b. key_has log number b at) (lists.empty at near e))
+name_is_key desk marks shape log lists number at (suc slot) near e =
+    let f = lists.full at slot near e in
+    ap (only number) f.1 ∙ sym (ap (λ b. key_has log number b at) f.0)
+
+pub named_are_filled_puts : (desk : Desk) (marks : Marks) (shape : Shape) (log : List Entry)
+    → Lists desk marks shape log → (number : ℕ)
+    → how_often number (named_puts marks.puts marks.names) ≡ how_often number (filled_puts shape log)
+named_are_filled_puts desk marks shape log lists number = named_often marks.puts marks.names number
+    ∙ puts_from_often number marks.puts marks.names log 0 (map_after shape log).states
+    (lists.wide ∙ sym (length-now shape log))
+    (λ i low.
+    let shift : i ≡ 0 + i = omega arith in
+    name_is_key desk marks shape log lists number i (get_or marks.names i 0) (omega (arith, lists.wide)) refl
+    ∙ ap (key_has log number (is_filled_key (state_of (map_after shape log) i))) shift)
+    ∙ ap (λ (n : ℕ). how_often number (keyed (map_after shape log).states (map (put_number log) (range_with_len 0 n))))
+    (length-now shape log)
+
+strays_same : (keys keys' qs : List ℕ) → ((q : ℕ) → how_often q keys ≡ how_often q keys')
+    → stray_count keys qs ≡ stray_count keys' qs
+strays_same keys keys' [] h = refl
+strays_same keys keys' (q ∷ qs) h = omega (arith, h q, strays_same keys keys' qs h)
+
+-- the strays by the history alone: pinned put numbers that no filled key has
+pub strays_by_history : (desk : Desk) (marks : Marks) (shape : Shape) (log : List Entry) (pinned : List ℕ)
+    → Lists desk marks shape log
+    → strays (named_puts marks.puts marks.names) pinned ≡ strays (filled_puts shape log) pinned
+strays_by_history desk marks shape log pinned lists = search (arith, strays_count, strays_same, named_are_filled_puts)

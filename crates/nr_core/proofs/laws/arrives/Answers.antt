@@ -1,4 +1,4 @@
-use Rattle.nr_core.proofs.Arrive.{arrives}
+use Rattle.nr_core.proofs.ReaderSteps.{arrives}
 use Rattle.nr_core.proofs.laws.arrives.Goals as goal
 
 pub returns : goal.returns

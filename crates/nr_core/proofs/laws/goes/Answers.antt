@@ -1,4 +1,4 @@
-use Rattle.nr_core.proofs.Go.{goes}
+use Rattle.nr_core.proofs.WriterSteps.{goes}
 use Rattle.nr_core.proofs.laws.goes.Goals as goal
 
 pub returns : goal.returns

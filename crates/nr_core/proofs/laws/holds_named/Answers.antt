@@ -1,4 +1,4 @@
-use Rattle.nr_core.proofs.HoldNamed.{holds_named}
+use Rattle.nr_core.proofs.ReaderSteps.{holds_named}
 use Rattle.nr_core.proofs.laws.holds_named.Goals as goal
 
 pub returns : goal.returns

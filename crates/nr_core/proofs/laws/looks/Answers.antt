@@ -1,4 +1,4 @@
-use Rattle.nr_core.proofs.Look.{looks}
+use Rattle.nr_core.proofs.WriterSteps.{looks}
 use Rattle.nr_core.proofs.laws.looks.Goals as goal
 
 pub returns : goal.returns

@@ -1,4 +1,4 @@
-use Rattle.nr_core.proofs.HoldNamed.{looks_up}
+use Rattle.nr_core.proofs.ReaderSteps.{looks_up}
 use Rattle.nr_core.proofs.laws.looks_up.Goals as goal
 
 pub returns : goal.returns

@@ -1,4 +1,4 @@
-use Rattle.nr_core.proofs.Read.{reads}
+use Rattle.nr_core.proofs.ReaderSteps.{reads}
 use Rattle.nr_core.proofs.laws.reads.Goals as goal
 
 pub returns : goal.returns

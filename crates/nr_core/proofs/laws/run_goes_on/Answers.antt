@@ -1,5 +1,4 @@
-use Rattle.nr_core.proofs.Reach.{run_keeps_shape}
-use Rattle.nr_core.proofs.Runs.{run_more, story_state}
+use Rattle.nr_core.proofs.Reach.{run_keeps_shape, run_more, story_state}
 use Rattle.nr_core.proofs.laws.run_goes_on.Goals as goal
 
 pub returns : goal.returns

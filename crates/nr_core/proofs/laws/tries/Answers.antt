@@ -1,4 +1,4 @@
-use Rattle.nr_core.proofs.Poll.{tries}
+use Rattle.nr_core.proofs.Settle.{tries}
 use Rattle.nr_core.proofs.laws.tries.Goals as goal
 
 pub returns : goal.returns
