@@ -1,15 +1,14 @@
 -- A reap: its sweeps and the scan between them, put together.
 use Rattle.std.proofs.Common.{◌≡◌, ℕ, ◌+◌, ◌*◌, ◌<◌, inl, inr, true, List, [], ◌∷◌, ◌++◌, ap, append-nil, append_assoc}
-use Rattle.std.proofs.Common.{arith, length, length-append, refl, set, subst, sym, ◌∙◌}
+use Rattle.std.proofs.Common.{arith, length, length-append, refl, subst, sym, ◌∙◌}
 use Rattle.nr_model.specs.Rows.{IsRowSet}
 use Rattle.nr_model.specs.declared.rows.Row.{Row}
 use Rattle.nr_core.specs.SlotLists.{SlotLists}
 use Rattle.nr_core.specs.declared.places.Place.TheVariants.{Idle}
 use Rattle.nr_core.specs.declared.places.Retired.{Retired}
 use Rattle.nr_core.specs.Marks.{Marks, OfSlot, Past, LoggedLoad, set_in, with_reaped, with_scan}
-use Rattle.nr_board.proofs.Sweeps.{rests_after, token_after}
 use Rattle.nr_board.proofs.WordLoads.{words_many}
-use Rattle.nr_board.specs.Callers.{Table, token}
+use Rattle.nr_board.specs.Callers.{Table, caller_of, token}
 use Rattle.nr_board.specs.HeldSlots.{HeldEach}
 use Rattle.nr_board.specs.Reaping.{ReapsIn, ReapsSet, ScansFirst, SweepsFor, SweepsHeard, probed, ready_in}
 use Rattle.nr_board.specs.Reaping.{ready_to, reaping, waiting}
@@ -30,6 +29,13 @@ after_loads notes loads heard view =
       marks = with_scan view.marks (view.marks.polls ++ notes) (view.marks.loads ++ loads);
       heard = heard;
     }
+
+-- the token after steps that leave all but its marks and what it heard
+token_after : (before after : MapSeat) {steps : ℕ} {marks : Marks} {heard : List ℕ}
+    → after.table_id ≡ before.table_id
+    → after.me.0 ≡ record before.me.0 { steps = steps; marks = marks; heard = heard }
+    → token after ≡ record (token before) { steps = steps; marks = marks; heard = heard }
+token_after before after own view = λ j. caller_of (own j) (view j)
 
 module _ {table : Table} {lists : SlotLists} {before : MapSeat} (rests : RestsAt table lists before) where
   -- the writer's lists are those of its token
@@ -169,14 +175,8 @@ module _ {table : Table} {lists : SlotLists} {before : MapSeat} (rests : RestsAt
             each = subst (λ (v : View). HeldEach v.shape.readers held notes) made.view each;
             shown = rw (sym slot_is, sym set_is) shown;
             row_set = rw (sym slot_is, sym set_is, ap (λ (t : Table). t.shape.rows) rests.writes.own) row_set;
-            new_is = rw (sym slot_is) (token_after last rests (last_same ∙ same) last_view);
+            new_is = rw (sym slot_is) (token_after before last (last_same ∙ same) last_view);
           }
-
-      pub reaped_rests : (after : SlotLists) → after ≡ record lists { reaped = set lists.reaped slot true }
-          → RestsAt table after last
-      reaped_rests after is =
-          rests_after last rests (last_same ∙ same) last_view after
-          (is ∙ (λ j. record lists { reaped = set (rests.reaped j) slot true }))
 
   -- every set that waits is kept back
   module _ (now : MapSeat) (sweeps : SweepsHeard lists before now sweep.Held)
@@ -205,10 +205,6 @@ module _ {table : Table} {lists : SlotLists} {before : MapSeat} (rests : RestsAt
           subst (λ (l : List Retired). 0 < length l) waiting_is some_wait,
           subst (λ (p : ℕ × List Retired). HeldEach p.0 p.1 notes)
               (λ j. ((made_held.view j).shape.readers, ready_then made_held j)) each,
-          rw plus (token_after now rests same view_kept),
+          rw plus (token_after before now same view_kept),
           refl,
         )
-
-    pub kept_rests : RestsAt table lists now
-    kept_rests =
-        rests_after now rests same view_kept lists (λ j. record lists { reaped = rests.reaped j })

@@ -7,11 +7,9 @@ use Rattle.std.specs.Prelude.{nat_lt, ◌||◌}
 use lib.ListN.{get_elem?}
 use mathlib.Core.Option.{some, some-injective}
 use Rattle.atomic_table.specs.Table.{Allows, Me}
-use Rattle.nr_model.specs.Histories.{entries_of}
 use Rattle.nr_words.specs.KeyWords.{same_count}
 use Rattle.nr_core.proofs.Learn.{learns}
 use Rattle.nr_core.proofs.WordPlaces.{same_departures}
-use Rattle.nr_core.specs.Core.{AreNumbers}
 use Rattle.nr_core.specs.Roles.{holds, is_reader, is_writer}
 use Rattle.atomic_table.proofs.Lists.{at_map}
 use Rattle.nr_core.specs.Steps.{LoadsWord}
@@ -32,7 +30,7 @@ use Rattle.nr_board.proofs.HeldSlots.{held_none, held_on}
 use Rattle.nr_board.proofs.Lift.{knows_pasts, lends_on, lifts, sees_alone}
 use Rattle.nr_board.proofs.Moves.{ActsGo, waited, waiting as learns_nothing}
 use Rattle.nr_board.proofs.PollNotes.{StandsAt, at_get}
-use Rattle.nr_board.specs.Callers.{Caller, Table, caller_of, map_seen, token}
+use Rattle.nr_board.specs.Callers.{Table}
 use Rattle.nr_board.specs.Entries.{AreCallers}
 use Rattle.nr_board.specs.Plays.{Room}
 use Rattle.nr_board.specs.Reaping.{ProbesAt, ProbesTo, SomeWait, SweepsFor, SweptTo, is_passed, ready_before, waiting}
@@ -231,31 +229,6 @@ swept_first lists seat (suc count) known =
     = record { is = at_get lists.retired count (omega (arith, known.0)) } in
     let next = swept_past earlier here (known.1 count (omega arith)) in
     subst (λ place. SweptTo lists seat seat place false) (omega arith) next
-
--- THE SEAT
-
--- the seat rests with its slots after steps that leave all but its marks and what it heard
-module _ {table : Table} {lists : SlotLists} {before : MapSeat} (after : MapSeat) {steps : ℕ} {marks : Marks}
-    {heard : List ℕ} (rests : RestsAt table lists before)
-    (own : after.table_id ≡ before.table_id)
-    (view : after.me.0 ≡ record before.me.0 { steps = steps; marks = marks; heard = heard }) where
-  pub token_after : token after ≡ record (token before) { steps = steps; marks = marks; heard = heard }
-  token_after = λ j. caller_of (own j) (view j)
-
-  pub rests_after : (lists' : SlotLists) → lists' ≡ record lists { reaped = marks.reaped } → RestsAt table lists' after
-  rests_after lists' is = subst (λ (s : SlotLists). RestsAt table s after) (sym is) (record {
-    writes = record {
-      own = ap (λ (c : Caller). c.table) token_after ∙ rests.writes.own;
-      role = ap (λ (v : View). v.role) view ∙ rests.writes.role;
-      room = rests.writes.room;
-      numbers =
-          subst (λ (c : Caller). AreNumbers table.shape (map_seen c) lists.numbers) (sym token_after)
-          rests.writes.numbers;
-    };
-    slots = rests.slots;
-    reaped = sym (ap (λ (v : View). v.marks.reaped) view);
-    own = subst (λ (c : Caller). entries_of c.seen c.number ≡ c.mine) (sym token_after) rests.own;
-  })
 
 -- a retired slot can be polled
 pub probes_at : {table : Table} {lists : SlotLists} {before now : MapSeat} {place : ℕ} {waits : Bool} {entry : Retired}
