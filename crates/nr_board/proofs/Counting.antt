@@ -44,17 +44,16 @@ pub counted_plain : (shape : Shape) (by_word : ℕ → ℕ) (words counted : Lis
 counted_plain shape by_word words counted place x low plain wide t = let room = t.room in record {
   room = omega (arith, length-set words place x, room);
   same = λ at near no_count. dite (ℕ_discrete at place)
-      (λ e. ap (λ (y : ℕ). get_or (set counted place x) y 0) e ∙ get_or-set_same counted place x 0 (omega arith)
-      ∙ sym (get_or-set_same words place x 0 (omega arith)) ∙ ap (λ (y : ℕ). get_or (set words place x) y 0) (sym e))
-      (λ ne. get_or-set_other counted place at x 0 ne ∙ t.same at near no_count
-      ∙ sym (get_or-set_other words place at x 0 ne));
+      (λ e. rw e (get_or-set_same counted place x 0 (omega arith)
+      ∙ sym (get_or-set_same words place x 0 (omega arith))))
+      (λ ne. rw (other_word counted at ne, other_word words at ne) (t.same at near no_count));
   less = λ slot near. let apart : departures shape slot ≢ place = λ e. plain slot near (sym e) in
-      get_or-set_other counted place (departures shape slot) x 0 apart ∙ t.less slot near
-      ∙ ap (λ (w : ℕ). (w + (2 ^ 64 - by_word slot)) % 2 ^ 64)
-      (sym (get_or-set_other words place (departures shape slot) x 0 apart));
-  small = λ slot near. rw (get_or-set_other words place (departures shape slot) x 0 (λ e. plain slot near (sym e)))
-      (t.small slot near);
+      rw (other_word counted _ apart, other_word words _ apart) (t.less slot near);
+  small = λ slot near. rw (other_word words _ (λ e. plain slot near (sym e))) (t.small slot near);
 }
+  where
+    other_word : (l : List ℕ) (at : ℕ) → at ≢ place → get_or (set l place x) at 0 ≡ get_or l at 0
+    other_word l at = get_or-set_other l place at x 0
 
 -- a load changes neither
 pub counted_load : (shape : Shape) (by_word : ℕ → ℕ) (words counted : List ℕ) (place : ℕ)
@@ -84,9 +83,11 @@ counted_departure shape by_word words counted mine near few wide t =
       less = λ slot low. dite (ℕ_discrete slot mine)
           (λ e. rw e (let l = t.less mine near in omega arith))
           (λ ne. let apart : departures shape slot ≢ place = λ e. ne (same_departures shape slot mine e) in
-          get_or-set_other counted place (departures shape slot) y 0 apart ∙ t.less slot low
-          ∙ ap (λ (w : ℕ). (w + (2 ^ 64 - by_word slot)) % 2 ^ 64)
-          (sym (get_or-set_other words place (departures shape slot) x 0 apart)));
+          rw (
+            get_or-set_other counted place (departures shape slot) y 0 apart,
+            get_or-set_other words place (departures
+                shape slot) x 0 apart,
+          ) (t.less slot low));
       small = λ slot low. dite (ℕ_discrete slot mine)
           (λ e. subst (λ (s : ℕ). get_or (set words place x) (departures shape s) 0 < 2 ^ 64) (sym e) (omega arith))
           (λ ne. rw (get_or-set_other words place (departures shape slot) x 0

@@ -1,6 +1,6 @@
 -- What a token learns of another, and what it knows of both after a gather.
-use Rattle.std.proofs.Common.{◌≡◌, ℕ, ◌+◌, List, [], ◌∷◌, ◌++◌, length, sym, ap, ◌∙◌, subst, arith, append-nil}
-use Rattle.std.proofs.Common.{length-append, refl}
+use Rattle.std.proofs.Common.{◌≡◌, ℕ, ◌+◌, List, [], ◌++◌, length, sym, ap, ◌∙◌, subst, arith, append-nil}
+use Rattle.std.proofs.Common.{length-append}
 use mathlib.Core.Option.{some}
 use lib.ListN.{get_elem?}
 use Rattle.atomic_table.specs.Seated.{TableId}
@@ -26,6 +26,7 @@ use Rattle.nr_board.specs.Rule.{StartsWith}
 use Rattle.nr_board.specs.Views.{View, desk_of}
 use Rattle.nr_core.specs.Core.{AreNumbers}
 use Rattle.nr_core.specs.Story.{map_after}
+use Rattle.std.proofs.lemmas.List.{nil_from_length}
 
 -- a history that begins with what a caller has seen has that caller's calls
 pub begins_with_calls : (log : List Entry) (caller : Caller) → KnowsOwn caller → StartsWith log caller.seen
@@ -68,11 +69,8 @@ meets_seat seat other note new own is hears readers = (
 
 -- a list that goes on twice and is itself did not go on
 nothing_more : {A : Type 0} (xs ys zs : List A) → xs ≡ (xs ++ ys) ++ zs → ys ≡ []
-nothing_more xs [] zs is = refl
-nothing_more xs (y ∷ ys) zs is =
-    absurd
-    (let long : length xs ≡ length ((xs ++ y ∷ ys) ++ zs) = ap length is in
-    omega (arith, length-append (xs ++ y ∷ ys) zs, length-append xs (y ∷ ys)))
+nothing_more xs ys zs is =
+    nil_from_length ys (omega (arith, ap length is, length-append (xs ++ ys) zs, length-append xs ys))
 
 -- a caller that has seen the history has no calls that the history lacks, and the history none that the caller lacks
 pub just_calls : (log : List Entry) (caller : Caller) → StartsWith (entries_of log caller.number) caller.mine

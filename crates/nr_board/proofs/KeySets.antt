@@ -1,7 +1,7 @@
 -- A filled key has its set as long as readers alone make calls; so an update's set is the key's before the update's
 -- entry.
-use Rattle.std.proofs.Common.{◌≡◌, ◌≢◌, ℕ, ◌<◌, Bool, true, List, [], ◌∷◌, ◌++◌, drop, get_or, length, ⊎_elim, refl}
-use Rattle.std.proofs.Common.{sym, ap, ◌∙◌, subst, arith, append_assoc, append-nil, length-append, cond, eq-eqb, ne_eqb}
+use Rattle.std.proofs.Common.{◌≡◌, ℕ, ◌<◌, true, List, [], ◌∷◌, ◌++◌, drop, get_or, length, refl}
+use Rattle.std.proofs.Common.{sym, ap, ◌∙◌, subst, arith, append_assoc, append-nil, length-append}
 use mathlib.Core.Logic.{dite}
 use native.Mathlib.Decide.{ℕ_discrete}
 use Rattle.nr_model.specs.declared.calls.Call.{Call}
@@ -18,6 +18,7 @@ use Rattle.nr_board.specs.WriterAnswers.{KeyHad}
 use Rattle.nr_board.specs.Callers.{Caller, Grows, KnowsOwn, Table, map_at_opening}
 use Rattle.nr_board.specs.Entries.{AreCallers, IsCallers, is_reading}
 use Rattle.nr_core.specs.Slots.{bound_of}
+use Rattle.std.proofs.lemmas.List.{nil_from_length}
 
 -- a find or a request leaves a filled key
 reading_leaves : (bound : ℕ) (call : Call) (number : ℕ) (rows : List Row) → is_reading call ≡ true
@@ -29,22 +30,7 @@ reading_leaves bound other number rows reads = absurd (cc)
 -- an entry of a reader, where none is the writer's
 reads_first : (shape : Shape) (e : Entry) (log : List Entry) → IsCallers shape e → entries_of (e ∷ log) 0 ≡ []
     → (is_reading e.call ≡ true) × (entries_of log 0 ≡ [])
-reads_first shape e log is none = ⊎_elim
-    (λ writes.
-    let here = sym (ap (λ (b : Bool). cond b (e ∷ entries_of log 0) (entries_of log 0)) (eq-eqb e.caller 0 writes.0))
-    ∙ none in
-    absurd (cc))
-    (λ reads. (
-      reads.1,
-      dite (ℕ_discrete e.caller 0)
-          (λ writes.
-          absurd (cc))
-          (λ other. sym (entries_skip e log other) ∙ none),
-    )) is.1
-  where
-    entries_skip : (e : Entry) (log : List Entry) → e.caller ≢ 0 → entries_of (e ∷ log) 0 ≡ entries_of log 0
-    entries_skip e log other =
-        ap (λ (b : Bool). cond b (e ∷ entries_of log 0) (entries_of log 0)) (ne_eqb e.caller 0 other)
+reads_first shape e log is none = let who = is.1 in (grind arith, grind arith)
 
 -- the set stays
 set_stays : (shape : Shape) (key number : ℕ) (rows : List Row) (log more : List Entry) → key < shape.keys
@@ -74,7 +60,7 @@ none_between steps old entries new own ours grows =
     let parts = ap (λ (l : List Entry). entries_of l n) grows.seen ∙ of-append n (old.seen ++ grows.between) entries
     ∙ (λ j. (of-append n old.seen grows.between j) ++ ours j)
     ∙ ap (λ (l : List Entry). (l ++ entries_of grows.between n) ++ entries) own in
-    none_in (entries_of grows.between n)
+    nil_from_length (entries_of grows.between n)
     (omega (
       arith,
       ap length (sym parts ∙ all),
@@ -82,10 +68,6 @@ none_between steps old entries new own ours grows =
       length-append old.mine (entries_of grows.between n),
       length-append old.mine entries,
     ))
-  where
-    none_in : (l : List Entry) → length l ≡ 0 → l ≡ []
-    none_in [] e = refl
-    none_in (x ∷ l) e = absurd (omega arith)
 
 -- lists that are equal with a last element each are equal without
 pub before_last : (xs ys : List Entry) (a b : Entry) → xs ++ a ∷ [] ≡ ys ++ b ∷ [] → xs ≡ ys

@@ -1,12 +1,11 @@
 -- A load that only learns.
-use Rattle.std.proofs.Common.{Bool, List, [], ap, append-nil, arith, cond, eq-eqb, false, get_or, map, ne_eqb, refl}
-use Rattle.std.proofs.Common.{subst, sym, true, ℕ, ◌%◌, ◌++◌, ◌<◌, ◌∙◌, ◌≡◌}
+use Rattle.std.proofs.Common.{List, [], ap, append-nil, arith, eq-eqb, get_or, map, refl}
+use Rattle.std.proofs.Common.{subst, sym, true, ℕ, ◌++◌, ◌<◌, ◌∙◌, ◌≡◌}
 use Rattle.atomic_table.specs.Table.{Allows, Me}
 use Rattle.nr_model.specs.Histories.{Entry, IsLegal}
 use Rattle.nr_model.specs.Maps.{state_of}
 use Rattle.nr_model.specs.declared.states.KeyState.{KeyState}
 use Rattle.nr_model.specs.declared.states.KeyState.TheVariants as key
-use Rattle.nr_words.specs.KeyWords.{has_ask, is_filled}
 use Rattle.nr_core.proofs.KeyWords.{names_none, names_one}
 use Rattle.nr_core.proofs.Learn.{learns}
 use Rattle.nr_core.specs.Core.{ShowsState, AreNumbers}
@@ -30,8 +29,6 @@ use Rattle.nr_board.specs.Learning.{Learned, LearnsOf}
 use Rattle.nr_board.specs.Notes.{IsCaller}
 use Rattle.nr_board.specs.Rule.{Kept, marks_of, role_of}
 use Rattle.nr_board.specs.Views.{View, desk_of, grip_of, caller_number}
-use Rattle.nr_board.specs.declared.answers.KeyKind.{KeyKind}
-use Rattle.nr_board.specs.declared.answers.KeyKind.TheVariants as kind
 use Rattle.nr_core.proofs.Sums.{here_after}
 use Rattle.atomic_table.proofs.Lists.{at_map}
 use mathlib.Core.Option.{some}
@@ -43,22 +40,13 @@ caller_is (Writer desk) call = refl
 caller_is (Reader reader grip) call = eq-eqb reader reader refl
 caller_is Note call = absurd (omega arith)
 
--- a word that names no slot
-not_named : (word : ℕ) (asked : Bool) → is_filled word ≡ false → has_ask word ≡ asked
-    → kind_shown word ≡ cond {A = KeyKind} asked kind.Asked kind.Hole
-not_named word asked empty ask = grind arith
-
 -- a key's word shows the kind of its state
 pub shows_kind : (shape : Shape) (words : List ℕ) (word : ℕ) (state : KeyState) → ShowsState shape words word state
     → kind_shown word ≡ kind_of state
-shows_kind shape words word (key.Hole number) shows =
-    not_named word false (names_none word shows.0)
-    (ne_eqb (word % 2) 1 (λ e. let even = shows.1 in absurd (omega arith)))
-shows_kind shape words word (key.Asked number) shows =
-    not_named word true (names_none word shows.0) (eq-eqb (word % 2) 1 shows.1)
+shows_kind shape words word (key.Hole number) shows = let empty = names_none word shows.0 in grind arith
+shows_kind shape words word (key.Asked number) shows = let empty = names_none word shows.0 in grind arith
 shows_kind shape words word (key.Rows number rows) shows =
-    ap (λ (b : Bool). cond {A = KeyKind} b kind.Rows (cond {A = KeyKind} (has_ask word) kind.Asked kind.Hole))
-    (names_one word shows.0 shows.1).0
+    let full = (names_one word shows.0 shows.1).0 in grind arith
 
 -- a history to which nothing is added
 still : (log entries : List Entry) → entries ≡ [] → log ≡ log ++ entries

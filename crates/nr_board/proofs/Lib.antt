@@ -1,7 +1,6 @@
 pub mod Counting
 pub mod Saying
 pub mod Heard
-pub mod HeldPolls
 pub mod HeldSlots
 pub mod Lift
 pub mod Entries

@@ -9,8 +9,7 @@ use Rattle.nr_core.specs.SlotLists.{SlotLists}
 use Rattle.nr_core.specs.declared.places.Retired.{Retired}
 use Rattle.nr_core.specs.MarkSteps.{TryTells}
 use Rattle.nr_core.specs.Marks.{LoggedLoad, with_scan}
-use Rattle.nr_board.proofs.HeldPolls.{polled_before, up_to_passed, up_to_polled}
-use Rattle.nr_board.proofs.HeldSlots.{vain_free, vain_none, vain_on}
+use Rattle.nr_board.proofs.HeldSlots.{polled_before, up_to_passed, up_to_polled, vain_free, vain_none, vain_on}
 use Rattle.nr_board.proofs.PollNotes.{StandsAt, there_is}
 use Rattle.nr_board.proofs.Tokens.{seat_grows}
 use Rattle.nr_board.proofs.WriterSteps.{same_desk}
@@ -41,6 +40,15 @@ passed_none {table = table} {lists = lists} {seat = seat} searches knows = recor
   polls = vain_none knows;
 }
 
+-- a search goes on at its desk
+pub searches_on : {table : Table} {lists : SlotLists} {now next : MapSeat} → SearchesIn table lists now
+    → (token next).table ≡ (token now).table → next.me.0.role ≡ now.me.0.role → SearchesIn table lists next
+searches_on searches same role = record {
+  search = search (same ∙ searches.search.own, role ∙ searches.search.role);
+  retired = searches.retired;
+  slots = searches.slots;
+}
+
 module
     _ {table : Table} {lists : SlotLists} {before now : MapSeat} {place : ℕ} {entry : Retired}
     (so_far : PassedTo table lists before now place) (here : StandsAt lists.retired place entry) where
@@ -55,12 +63,7 @@ module
 
   pub passed_by : passes entry.slot ≡ true → PassedTo table lists before now (place + 1)
   passed_by gone =
-      record {
-        own = so_far.own;
-        role = so_far.role;
-        search = so_far.search;
-        polls = rw (up_to_passed passes here gone) so_far.polls;
-      }
+      let polls = rw (← up_to_passed passes here gone) at so_far.polls in assumption
 
   -- the slot may be polled
   pub tries_at : passes entry.slot ≡ false → TriesAt table entry now
@@ -97,8 +100,7 @@ module
         let mine = tells desk call rows place is is_at there in (
           mine,
           ap (λ (b : Bool). cond {A = Desk} b (taking_retired desk call rows place found) desk) agrees,
-          subst (λ (p : Bool × Retired). TryTells p.0 now.me.0.shape p.1.slot now.me.0.marks next.me.0.marks)
-              (λ j. (agrees j, sym entry_is j)) mine.marks,
+          rw (agrees, sym entry_is) at mine.marks,
         )
 
     own_told : (answer : Bool) → same_count found entry.arrivals ≡ answer
@@ -114,22 +116,10 @@ module
     pub passed_more : same_count found entry.arrivals ≡ false → PassedTo table lists before next (place + 1)
     passed_more apart =
         let (_, stays, noted) = own_told false apart in
-        let role : next.me.0.role ≡ Writer search_now.desk = told.0.leads.role ∙ ap Writer stays in record {
+        let role = told.0.leads.role ∙ ap Writer stays ∙ sym search_now.role in record {
           own = same ∙ so_far.own;
-          role = role ∙ sym search_now.role ∙ so_far.role;
-          search = record {
-            search = record {
-              own = one.table ∙ search_now.own;
-              desk = search_now.desk;
-              role = role;
-              room = search_now.room;
-              call = search_now.call;
-              rows = search_now.rows;
-              place = search_now.place;
-            };
-            retired = so_far.search.retired;
-            slots = so_far.search.slots;
-          };
+          role = role ∙ so_far.role;
+          search = searches_on so_far.search one.table role;
           polls =
               rw (up_to_polled passes here free)
               (vain_on so_far.polls entry one told.0.heard now.me.0.shape

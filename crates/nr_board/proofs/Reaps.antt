@@ -1,18 +1,17 @@
 -- A reap: its sweeps and the scan between them, put together.
 use Rattle.std.proofs.Common.{◌≡◌, ℕ, ◌+◌, ◌*◌, ◌<◌, inl, inr, true, List, [], ◌∷◌, ◌++◌, ap, append-nil, append_assoc}
-use Rattle.std.proofs.Common.{arith, length, length-append, refl, set, subst, sym, ◌∙◌}
+use Rattle.std.proofs.Common.{arith, length, length-append, refl, subst, sym, ◌∙◌}
 use Rattle.nr_model.specs.Rows.{IsRowSet}
 use Rattle.nr_model.specs.declared.rows.Row.{Row}
 use Rattle.nr_core.specs.SlotLists.{SlotLists}
 use Rattle.nr_core.specs.declared.places.Place.TheVariants.{Idle}
 use Rattle.nr_core.specs.declared.places.Retired.{Retired}
 use Rattle.nr_core.specs.Marks.{Marks, OfSlot, Past, LoggedLoad, set_in, with_reaped, with_scan}
-use Rattle.nr_board.proofs.Sweeps.{rests_after, token_after}
 use Rattle.nr_board.proofs.WordLoads.{words_many}
-use Rattle.nr_board.specs.Callers.{Table, token}
+use Rattle.nr_board.specs.Callers.{Table, caller_of, token}
 use Rattle.nr_board.specs.HeldSlots.{HeldEach}
-use Rattle.nr_board.specs.Reaping.{ReapsIn, ReapsSet, ScansFirst, SweepsFor, SweepsHeard, after_polls, probed, ready_in}
-use Rattle.nr_board.specs.Reaping.{ready_to, reaping, waiting, with_reap}
+use Rattle.nr_board.specs.Reaping.{ReapsIn, ReapsSet, ScansFirst, SweepsFor, SweepsHeard, probed, ready_in}
+use Rattle.nr_board.specs.Reaping.{ready_to, reaping, waiting}
 use Rattle.nr_board.specs.Recalls.{RecallsAt, waited}
 use Rattle.nr_board.specs.SlotLists.{desk_with, held_polls}
 use Rattle.nr_board.specs.Views.{View, desk_of}
@@ -30,6 +29,13 @@ after_loads notes loads heard view =
       marks = with_scan view.marks (view.marks.polls ++ notes) (view.marks.loads ++ loads);
       heard = heard;
     }
+
+-- the token after steps that leave all but its marks and what it heard
+token_after : (before after : MapSeat) {steps : ℕ} {marks : Marks} {heard : List ℕ}
+    → after.table_id ≡ before.table_id
+    → after.me.0 ≡ record before.me.0 { steps = steps; marks = marks; heard = heard }
+    → token after ≡ record (token before) { steps = steps; marks = marks; heard = heard }
+token_after before after own view = λ j. caller_of (own j) (view j)
 
 module _ {table : Table} {lists : SlotLists} {before : MapSeat} (rests : RestsAt table lists before) where
   -- the writer's lists are those of its token
@@ -56,19 +62,14 @@ module _ {table : Table} {lists : SlotLists} {before : MapSeat} (rests : RestsAt
 
   last_sweep : (now : MapSeat) (found : Sweep) → SweepsHeard lists before now found → LastSweep now found
   last_sweep now found (inl (sweeps, none)) =
-      let view = before.me.0 in let steps : view.steps ≡ view.steps + 0 = omega arith in
+      let view = before.me.0 in let steps : view.steps + 0 ≡ view.steps = omega arith in
       record {
         last = before;
         earlier = [];
         loads = [];
         first = inl (refl, refl, refl);
         scans = λ held some_words. let none_has = none held in absurd (omega arith);
-        view = λ j.
-            record view {
-              steps = steps j;
-              marks = with_scan view.marks (sym (append-nil view.marks.polls) j)
-                  (sym (append-nil view.marks.loads) j);
-            };
+        view = simp (append-nil, steps);
         sweeps = sweeps;
       }
   last_sweep now found (inr (some_words, mid, last, (notes, _, each, swept), scan, words, scans, second)) =
@@ -88,13 +89,7 @@ module _ {table : Table} {lists : SlotLists} {before : MapSeat} (rests : RestsAt
           ap (λ (l : List Retired). held_polls l ++ scan) (ready_is view.heard),
         );
         scans = λ _ _. omega (arith, length-append polls scan, words_many words);
-        view = scans ∙ ap (scanned_to scan last.me.0.heard) swept
-            ∙ (λ j.
-            record view {
-              steps = steps j;
-              marks = with_scan view.marks (view.marks.polls ++ notes) (append_assoc view.marks.loads polls scan j);
-              heard = last.me.0.heard;
-            });
+        view = scans ∙ ap (scanned_to scan last.me.0.heard) swept ∙ simp (append_assoc, steps);
         sweeps = second;
       }
 
@@ -112,14 +107,7 @@ module _ {table : Table} {lists : SlotLists} {before : MapSeat} (rests : RestsAt
     after_sweep notes polls = let view = before.me.0 in
         let steps : view.steps + length made.loads + length polls ≡ view.steps + length (made.loads ++ polls)
         = omega (arith, length-append made.loads polls) in
-        ap (probed notes polls) made.view
-        ∙ (λ j.
-        record view {
-          steps = steps j;
-          marks = with_scan view.marks (append_assoc view.marks.polls made.earlier notes j)
-              (append_assoc view.marks.loads made.loads polls j);
-          heard = heard_then;
-        })
+        ap (probed notes polls) made.view ∙ simp (append_assoc, steps)
 
   -- a set that the sweeps found
   module _ (now : MapSeat) (slot : ℕ) (sweeps : SweepsHeard lists before now (sweep.Free slot))
@@ -174,18 +162,6 @@ module _ {table : Table} {lists : SlotLists} {before : MapSeat} (rests : RestsAt
       reaps_set shows {after = after} shown row_set =
           let (held, later, entry, notes, split, each, slot_is, _, _) = made.sweeps in
           let set_is = ap (λ (v : View). set_in v.marks slot) view_now in
-          let gives = subst (λ (s : ℕ). shows after (set_in before.me.0.marks s)
-          × IsRowSet (token before).table.shape.rows (set_in before.me.0.marks s)
-          × (token last
-          ≡ with_reap s
-          (after_polls notes_now (made.loads ++ (held_polls held ++ OfSlot s true ∷ [])) made.last.me.0.heard
-          (2 * length (set_in before.me.0.marks s) + 1) (token before))))
-          slot_is (
-            rw (sym set_is) shown,
-            rw (sym set_is) (subst (λ (t : Table). IsRowSet t.shape.rows (set_in now.me.0.marks slot))
-                (sym rests.writes.own) row_set),
-            token_after last rests (last_same ∙ same) last_view,
-          ) in
           record {
             held = held;
             later = later;
@@ -197,16 +173,10 @@ module _ {table : Table} {lists : SlotLists} {before : MapSeat} (rests : RestsAt
             first = made.first;
             split = sym (ready_then made) ∙ split;
             each = subst (λ (v : View). HeldEach v.shape.readers held notes) made.view each;
-            shown = gives.0;
-            row_set = gives.1;
-            new_is = gives.2;
+            shown = rw (sym slot_is, sym set_is) shown;
+            row_set = rw (sym slot_is, sym set_is, ap (λ (t : Table). t.shape.rows) rests.writes.own) row_set;
+            new_is = rw (sym slot_is) (token_after before last (last_same ∙ same) last_view);
           }
-
-      pub reaped_rests : (after : SlotLists) → after ≡ record lists { reaped = set lists.reaped slot true }
-          → RestsAt table after last
-      reaped_rests after is =
-          rests_after last rests (last_same ∙ same) last_view after
-          (is ∙ (λ j. record lists { reaped = set (rests.reaped j) slot true }))
 
   -- every set that waits is kept back
   module _ (now : MapSeat) (sweeps : SweepsHeard lists before now sweep.Held)
@@ -219,17 +189,13 @@ module _ {table : Table} {lists : SlotLists} {before : MapSeat} (rests : RestsAt
         (made_held.loads ++ held_polls (ready_to (token before) made_held.last.me.0.heard))
         made_held.last.me.0.heard before.me.0
     view_kept =
-        made_held.sweeps.3 ∙ after_sweep made_held made_held.sweeps.0 (held_polls (ready_in lists made_held.last.me.0))
-        ∙ ap
-        (λ (l : List Retired). after_loads (made_held.earlier ++ made_held.sweeps.0) (made_held.loads ++ held_polls l)
-        made_held.last.me.0.heard before.me.0)
-        (ready_then made_held)
+        rw (sym (ready_then made_held)) (made_held.sweeps.3 ∙ after_sweep made_held made_held.sweeps.0 _)
 
     pub keeps_all : {Room : Type 0} (shows : Room → List Row → Type 0) (room : Room)
         → ReapsIn shows (token before) room (token now) room reaped.Held
     keeps_all shows room = let (notes, some_wait, each, _) = made_held.sweeps in
         let loads = made_held.loads ++ held_polls (ready_to (token before) made_held.last.me.0.heard) in
-        let plus : length loads ≡ length loads + 0 = omega arith in (
+        let plus : length loads + 0 ≡ length loads = omega arith in (
           notes,
           made_held.earlier,
           made_held.last.me.0.heard,
@@ -239,16 +205,6 @@ module _ {table : Table} {lists : SlotLists} {before : MapSeat} (rests : RestsAt
           subst (λ (l : List Retired). 0 < length l) waiting_is some_wait,
           subst (λ (p : ℕ × List Retired). HeldEach p.0 p.1 notes)
               (λ j. ((made_held.view j).shape.readers, ready_then made_held j)) each,
-          token_after now rests same
-              (view_kept ∙ (λ j. record before.me.0 {
-                steps = before.me.0.steps + plus j;
-                marks = with_scan before.me.0.marks (before.me.0.marks.polls ++ (made_held.earlier ++ notes))
-                    (before.me.0.marks.loads ++ loads);
-                heard = made_held.last.me.0.heard;
-              })),
+          rw plus (token_after before now same view_kept),
           refl,
         )
-
-    pub kept_rests : RestsAt table lists now
-    kept_rests =
-        rests_after now rests same view_kept lists (λ j. record lists { reaped = rests.reaped j })

@@ -1,14 +1,13 @@
 -- The two passes of a search and the scan between them, put together.
 use Rattle.std.proofs.lemmas.Bool.{false≢true}
 use Rattle.std.proofs.Common.{◌≡◌, ◌≢◌, ℕ, zero, suc, ◌+◌, ◌<◌, ◌≤◌, ⊎_elim, inl, inr, List, [], ◌∷◌, ◌++◌, Bool}
-use Rattle.std.proofs.Common.{ne_eqb, append_assoc, length, length-append, take_all, refl, sym, ap}
-use Rattle.std.proofs.Common.{◌∙◌, subst, arith}
+use Rattle.std.proofs.Common.{ne_eqb, append_assoc, length, length-append, take_all, refl, sym, ap, ◌∙◌, subst, arith}
 use Rattle.std.specs.Prelude.{None, Some}
 use mathlib.Core.Logic.{dite}
 use mathlib.Core.Option.{some}
 use native.Mathlib.Decide.{ℕ_discrete}
 use lib.ListN.{get_elem?}
-use Rattle.nr_core.proofs.Choices.{by_cases}
+use Rattle.nr_core.proofs.Choices.{either}
 use Rattle.nr_core.specs.SlotLists.{SlotLists, all_taken}
 use Rattle.nr_core.proofs.Different.{few_of}
 use Rattle.nr_core.proofs.Sums.{only-is, some_term, total-append}
@@ -18,7 +17,7 @@ use Rattle.nr_core.proofs.ListPlaces.{at_left, some_is}
 use Rattle.nr_core.specs.Marks.{Marks, OfWord, Past, LoggedLoad, with_scan}
 use Rattle.nr_core.specs.Roles.{retirements}
 use Rattle.nr_board.proofs.Keepers.{at_behind, held_within}
-use Rattle.nr_board.proofs.HeldSlots.{held_at, held_few, note_kept, slot_kept}
+use Rattle.nr_board.proofs.HeldSlots.{held_at, held_few, note_kept, slot_kept, held_many, polled_at}
 use Rattle.nr_board.proofs.Passes.{takes_by}
 use Rattle.nr_board.proofs.Tokens.{grows_both, grows_from, grows_rests}
 use Rattle.nr_board.specs.Callers.{Grows, Rests, Table, map_seen, token}
@@ -28,21 +27,19 @@ use Rattle.nr_board.specs.Passes.{PassTakes, PassedTo, is_unheard}
 use Rattle.nr_board.specs.Polls.{KeptThen, SaidThen}
 use Rattle.nr_board.specs.SlotLists.{desk_with, heard_all, held_polls, not_passed, polls_to}
 use Rattle.nr_board.proofs.Flagging.{flag_is, flags_are}
-use Rattle.nr_board.proofs.HeldPolls.{held_many, polled_at}
 use Rattle.nr_board.proofs.WriterSeats.{leads_seat}
 use Rattle.nr_board.specs.declared.publish.Taken.{Taken}
 use Rattle.nr_board.proofs.WholeScans.{retired_once}
 use Rattle.nr_board.proofs.Searching.{begun}
-use Rattle.nr_core.specs.Story.{call_of, map_after}
+use Rattle.nr_core.specs.Story.{call_of}
 use Rattle.nr_core.specs.declared.calls.WriterCall.{WriterCall}
 use Rattle.nr_core.specs.declared.places.Place.TheVariants.{Idle, Searching}
 use Rattle.nr_core.specs.declared.roles.Role.{Role}
 use Rattle.nr_core.specs.declared.roles.Role.TheVariants.{Writer}
-use Rattle.nr_model.specs.declared.calls.Reply.TheVariants as reply
 use Rattle.nr_model.specs.declared.rows.Row.{Row}
 use Rattle.nr_core.specs.declared.roles.Desk.{Desk}
 use Rattle.nr_core.specs.declared.shape.Shape.{Shape}
-use Rattle.nr_model.specs.Maps.{filled_count, reply_to}
+use Rattle.nr_model.specs.Maps.{filled_count}
 use Rattle.nr_board.specs.SearchSeats.{Ends}
 use Rattle.nr_board.proofs.WordLoads.{words_many, words_told}
 use Rattle.nr_board.specs.WordLoads.{WordsTell}
@@ -124,8 +121,7 @@ module _ {table : Table} {call : WriterCall} {rows : List Row} {lists : SlotList
     all_polled : {seat now : MapSeat} → PassedTo table lists seat now (length lists.retired)
         → InVain (heard_by seat) seat now
     all_polled {seat = seat} {now = now} pass =
-        subst (λ (l : List Retired). InVain (heard_all table.announcers seat.me.0.heard l) seat now)
-        (take_all (length lists.retired) lists.retired (omega arith)) pass.polls
+        rw (take_all (length lists.retired) lists.retired (omega arith)) at pass.polls
 
     first_pass : InVain (heard_by before) before mid
     first_pass = all_polled first
@@ -141,15 +137,7 @@ module _ {table : Table} {call : WriterCall} {rows : List Row} {lists : SlotList
 
     -- the scan adds nothing
     scanning : Rests table.announcers (token mid) (token swept)
-    scanning = let rest = scan.loaded.rest in record {
-      table = λ j. record { id = same j; shape = (rest j).shape; announcers = (rest j).announcers };
-      number = ap (λ (v : View). (token (record swept { me = (v, swept.me.1) })).number) rest;
-      seen = ap (λ (v : View). v.seen) rest;
-      mine = ap (λ (v : View). v.mine) rest;
-      steps_made = ap (λ (v : View). v.steps) rest;
-      pasts = ap (λ (v : View). v.pasts) rest;
-      loaded_ahead = ap (λ (v : View). v.loaded_ahead) rest;
-    }
+    scanning = rw (same, scan.loaded.rest) assumption
 
     now_keep : KeepBack lists.retired scanned table.announcers mid.me.0.marks.loads swept.me.0.marks.loads
         swept.me.0.marks.polls
@@ -200,9 +188,7 @@ module _ {table : Table} {call : WriterCall} {rows : List Row} {lists : SlotList
         is ∙ ap (λ (v : View). with_scan v.marks marks.polls (v.marks.loads ++ more)) scan.loaded.rest
         ∙ (λ j. with_scan mid.me.0.marks marks.polls (words_are.2 j ++ more))
         ∙ ap (λ (m : Marks). with_scan m marks.polls ((m.loads ++ scan_loads) ++ more)) first_pass.held.marks
-        ∙ ap (with_scan before.me.0.marks marks.polls)
-        (append_assoc (before.me.0.marks.loads ++ first_polls) scan_loads more
-        ∙ append_assoc before.me.0.marks.loads first_polls (scan_loads ++ more))
+        ∙ simp append_assoc
 
     pub takes_second : {now : MapSeat} {after : SlotLists} {taken : Taken} → PassTakes table swept lists now after taken
         → TakesSlot table call rows before lists now after taken.slot taken.departures
@@ -277,8 +263,7 @@ module _ {table : Table} {call : WriterCall} {rows : List Row} {lists : SlotList
           let sizes : now.me.0.shape ≡ table.shape = ap (λ (t : Table). t.shape) writes.own in
           let held_now : (token now).retired ≡ lists.retired = ap (λ (r : Role). (desk_of r).retired) writes.role in
           let sum : filled_count (map_seen (token now)) + length lists.retired ≡ now.me.0.shape.slots
-          = subst (λ (s : Shape). filled_count (map_after s now.me.0.seen) + length lists.retired ≡ s.slots) shapes
-          gave.slots in
+          = rw shapes at gave.slots in
           let polls_last : last.me.0.marks.polls ≡ swept.me.0.marks.polls ++ notes
           = ap (λ (m : Marks). m.polls) second_pass.held.marks in
           let polls_now : now.me.0.marks.polls ≡ swept.me.0.marks.polls ++ notes
@@ -315,17 +300,14 @@ module _ {table : Table} {call : WriterCall} {rows : List Row} {lists : SlotList
                 (omega (arith, all_many more, held_many (heard_by swept)))
                 (grows_both refl up_to second_pass.grows) one;
             lacks = record {
-              would_be_done =
-                  subst (λ (s : Shape). reply_to (map_after s now.me.0.seen) (call_of call) ≡ reply.Done) shapes
-                  gave.would_be_done;
+              would_be_done = rw shapes at gave.would_be_done;
               live = omega (arith, sum, settles.slots, ap (λ (s : Shape). s.slots) sizes);
               held = ap length (sym held_now);
               all = omega (arith, sum, settles.slots, ap (λ (s : Shape). s.slots) sizes);
               full =
                   let fresh : (token now).fresh ≡ lists.fresh = ap (λ (r : Role). (desk_of r).fresh) writes.role in
                   omega (arith, settles.slots, ap (λ (s : Shape). s.slots) sizes);
-              apart = λ slot. subst (λ (l : List Retired). retirements slot l ≤ 1) (sym held_now)
-                  (retired_once table.shape (desk_with lists Idle) writes.room slot);
+              apart = λ slot. rw held_now (retired_once table.shape (desk_with lists Idle) writes.room slot);
               many = ap length polls_now ∙ all_noted ∙ ap length (sym held_now);
               others = rw polls_now all_apart;
               few =
@@ -341,15 +323,11 @@ module _ {table : Table} {call : WriterCall} {rows : List Row} {lists : SlotList
             noted = λ none. absurd (omega arith);
             kept = rw polls_now (record {
               slots = λ slot waits.
-                  by_cases
-                  (λ (b : Bool). is_flagged scanned slot ≡ b
-                  → (at : ℕ) × (note : Past) × (get_elem? (swept.me.0.marks.polls ++ notes) at ≡ some note)
-                  × KeptThen before.me.0.seen now.me.0.seen (all_loads more) slot note)
-                  (is_flagged scanned slot)
-                  (λ _ is.
+                  either (is_flagged scanned slot)
+                  (λ is.
                   let (at, note, there, said) = now_keep.slots slot (waits, is) in
                   (at, note, at_left swept.me.0.marks.polls notes at note there, inr (said_among slot note said)))
-                  (λ _ is.
+                  (λ is.
                   let (at, note, there, held)
                   = slot_kept unheard lists.retired second_pass slot waits
                   (sym (flag_is table lists.retired swept.me.0.heard scanned flagged slot) ∙ is) in (
@@ -357,8 +335,7 @@ module _ {table : Table} {call : WriterCall} {rows : List Row} {lists : SlotList
                     note,
                     at_behind swept.me.0.marks.polls notes at ∙ there,
                     inl (held_within (grows_from up_to) (grows_from one) held),
-                  ))
-                  refl;
+                  ));
               keepers =
                   each_both
                   (λ note. (slot : ℕ) × (0 < retirements slot lists.retired)

@@ -2,7 +2,7 @@
 use Rattle.std.proofs.Common.{◌≡◌, ◌≢◌, ℕ, suc, zero, ◌+◌, ◌-◌, ◌<◌, ◌≤◌, ◌⊎◌, ⊎_elim, inl, inr, List, [], ◌∷◌, ◌++◌}
 use Rattle.std.proofs.Common.{Bool, true, false, length, get_or, set, nat_eq, eq-eqb, ne_eqb, get_or-set_other}
 use Rattle.std.proofs.Common.{get_or-set_same, length-set, refl, sym, ap, ◌∙◌, subst, arith, length-append}
-use Rattle.std.proofs.lemmas.Bool.{eqb-true, le-ltb, lt-ltb, ltb-true}
+use Rattle.std.proofs.lemmas.Bool.{eqb-true, le-ltb, ltb-true}
 use Rattle.std.specs.Prelude.{nat_lt, Some, None, ◌||◌}
 use mathlib.Core.Logic.{dite}
 use mathlib.Core.Option.{some, some-injective}
@@ -40,15 +40,11 @@ flag_elsewhere flags mine slot apart = get_or-set_other flags mine slot true tru
 -- a flag that stands is set once more
 flag_stays : (flags : List Bool) (mine slot : ℕ) → is_flagged flags slot ≡ true
     → is_flagged (set flags mine true) slot ≡ true
-flag_stays flags mine slot is = dite (ℕ_discrete slot mine)
-    (λ e. subst (λ (n : ℕ). is_flagged (set flags mine true) n ≡ true) (sym e)
-    (again flags mine (subst (λ (n : ℕ). is_flagged flags n ≡ true) e is)))
-    (λ ne. flag_elsewhere flags mine slot ne ∙ is)
-  where
-    again : (l : List Bool) (at : ℕ) → get_or l at true ≡ true → get_or (set l at true) at true ≡ true
-    again [] at e = e
-    again (x ∷ l) zero e = refl
-    again (x ∷ l) (suc at) e = again l at e
+flag_stays [] mine slot is = is
+flag_stays (x ∷ flags) zero zero is = refl
+flag_stays (x ∷ flags) zero (suc slot) is = is
+flag_stays (x ∷ flags) (suc mine) zero is = is
+flag_stays (x ∷ flags) (suc mine) (suc slot) is = flag_stays flags mine slot is
 
 -- as many retired slots are flagged as before, where the slot isn't retired or was flagged
 misses_same : (retired : List Retired) (flags : List Bool) (mine : ℕ)
@@ -125,14 +121,12 @@ module _ (desk : Desk) (before now next : View) (flags : List Bool) (own found :
       → heard_before own (get_or now.heard slot 0) ≡ unsaid slot words
   before_is slot waits = let each = so_far.loaded.words.each in let few = unsaid_few slot words in
       dite (ℕ_discrete own 0) (λ e. rw (eq-eqb own 0 e) (omega arith))
-      (λ ne. rw (ne_eqb own 0 ne)
+      (λ ne. let low : slot < before.shape.slots
+      = let same = ap (λ (v : View). v.shape.slots) so_far.loaded.rest in omega (arith, inside slot waits) in
+      rw (ne_eqb own 0 ne)
       (ap (λ (l : List ℕ). get_or l slot 0) (so_far.loaded.words.tell (omega arith))
       ∙ heard_of_at desk.retired words before.shape.slots slot
-      ∙ rw (
-        lt-ltb slot before.shape.slots
-            (let same = ap (λ (v : View). v.shape.slots) so_far.loaded.rest in omega (arith, inside slot waits)),
-        lt-ltb 0 (retirements slot desk.retired) waits,
-      ) refl))
+      ∙ grind arith))
 
   -- the loads so far
   many_loads : length now.marks.loads ≡ length before.marks.loads + own
@@ -165,9 +159,8 @@ module _ (desk : Desk) (before now next : View) (flags : List Bool) (own found :
   flagged_before : (slot : ℕ) → FlaggedIn desk.retired said_now slot
       → FlaggedIn desk.retired flags slot ⊎ (found ≡ suc slot)
   flagged_before slot flagged =
-      let now_is = flag_now found flags slot (omega (arith, inside slot flagged.0)) in
-      dite (ℕ_discrete found (suc slot)) inr
-      (λ ne. inl (flagged.0, (let is = flagged.1 in grind arith)))
+      let now_is = flag_now found flags slot (omega (arith, inside slot flagged.0)) in let is = flagged.1 in
+      dite (ℕ_discrete found (suc slot)) inr (λ ne. inl (flagged.0, grind arith))
 
   each_on : (at : ℕ) (note : Past) → get_elem? notes at ≡ some note
       → (slot : ℕ) × FlaggedIn desk.retired said_now slot
@@ -204,11 +197,7 @@ module _ (desk : Desk) (before now next : View) (flags : List Bool) (own found :
     each = each_on;
     slots = λ slot flagged.
         let was : is_flagged flags slot ≡ true
-        = ⊎_elim (λ (f : FlaggedIn desk.retired flags slot). f.1)
-        (λ (e : found ≡ suc slot). ⊎_elim (λ (none : retirements slot desk.retired ≡ 0).
-        absurd (let waits = flagged.0 in omega arith)) (λ (f : is_flagged flags slot ≡ true). f)
-        (kept_by_none slot e lets))
-        (flagged_before slot flagged) in
+        = grind (arith, flagged.0, flagged_before slot flagged, kept_by_none slot, lets) in
         let (at, note, there, said) = keep.slots slot (flagged.0, was) in (at, note, there, said_on slot note said);
   }
 

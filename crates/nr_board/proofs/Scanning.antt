@@ -8,8 +8,8 @@ use lib.ListN.{get_elem?}
 use lib.Seq.{set-get_or}
 use Rattle.atomic_table.proofs.Lists.{at_map}
 use Rattle.atomic_table.specs.Table.{Allows, Me, State, keeps, step}
-use Rattle.nr_core.proofs.Sums.{at_set, term_le}
-use Rattle.nr_core.specs.Roles.{is_by, is_writer, keeps as kept_slots, retirements}
+use Rattle.nr_core.proofs.Sums.{term_le}
+use Rattle.nr_core.specs.Roles.{is_writer, keeps as kept_slots, retirements}
 use Rattle.nr_core.specs.Slots.{layout, name_number}
 use Rattle.nr_words.specs.Places.{total_of}
 use Rattle.nr_core.specs.declared.roles.Desk.{Desk}
@@ -18,7 +18,8 @@ use Rattle.nr_core.specs.declared.roles.Role.TheVariants.{Writer}
 use Rattle.nr_core.specs.declared.shape.Shape.{Shape}
 use Rattle.nr_core.specs.Marked.{KnowsMarks}
 use Rattle.nr_core.specs.Marks.{with_loads}
-use Rattle.nr_board.proofs.Heard.{AllHear, hears_after, no_reader}
+use Rattle.nr_board.proofs.Heard.{AllHear, IsQuiet, hears_after, no_reader}
+use Rattle.nr_board.proofs.OneView.{at_any}
 use Rattle.nr_board.proofs.WriterSteps.{same_desk, writer_shape}
 use Rattle.nr_core.proofs.Counting.{named_inside, names_it}
 use Rattle.nr_board.proofs.Notes.{counts_on}
@@ -101,34 +102,23 @@ scan_heard shape state kept id own view next desk at is within same names heard_
     let more : (slot : ℕ) → HeardMore desk own found slot (get_or view.heard slot 0) (get_or next.heard slot 0)
     = λ slot. rw heard_is (heard_more desk own found view.heard view.shape.slots slot) in
     let hears : Hears (set state.views id next) next = record {
-      quiet = λ k slot other v here his low. ⊎_elim
-          (λ (p : (k ≡ id) × (next ≡ v)). absurd
-          (no_reader next.role other writes (ap (λ (w : View). is_by (suc other) w.role) p.1 ∙ his)))
-          (λ (p : (k ≢ id) × (get_elem? state.views k ≡ some v)). ⊎_elim
-          (λ (still : get_or next.heard slot 0 ≤ get_or view.heard slot 0). before.quiet k slot other v p.1 his
-          (omega arith))
-          (λ (one : (get_or next.heard slot 0 ≡ suc own) × (own ≤ get_or view.heard slot 0) × (found ≢ suc slot)
-          × (0 < retirements slot desk.retired)).
-          dite (ℕ_discrete other own)
-          (λ e. says_other shape state kept k slot v p.1
+      quiet = λ k slot other. at_any {P = λ _ v. IsQuiet next slot other v} state.views id next
+          (λ his _. absurd (no_reader next.role other writes his))
+          (λ i v _ here his low. ⊎_elim (λ (still : _). before.quiet i slot other v here his (omega arith))
+          (λ (one : _). dite (ℕ_discrete other own)
+          (λ e. says_other shape state kept i slot v here
           (λ says. one.2
           (ap (λ (n : ℕ). get_or words (says_at shape n) 0) (sym e)
-          ∙ kept.announced.says k other v p.1 his
+          ∙ kept.announced.says i other v here his
           (let told = kept.told_of id view at (let one = ap is_writer is in omega arith) in omega arith)
           ∙ says)))
-          (λ ne. before.quiet k slot other v p.1 his (omega (arith, one.0, one.1))))
-          (more slot))
-          (at_set state.views id k next v here);
+          (λ ne. before.quiet i slot other v here his (omega (arith, one.0, one.1))))
+          (more slot)) k;
       unheard = λ key slot named.
           let was : get_or view.marks.names key 0 ≡ suc slot
           = ap (λ (l : List ℕ). get_or l key 0) (sym names) ∙ named in
-          ⊎_elim
-          (λ (still : get_or next.heard slot 0 ≤ get_or view.heard slot 0).
-          let none = before.unheard key slot was in omega arith)
-          (λ (one : (get_or next.heard slot 0 ≡ suc own) × (own ≤ get_or view.heard slot 0) × (found ≢ suc slot)
-          × (0 < retirements slot desk.retired)).
-          absurd (named_stays shape state kept id view desk at is key slot was one.3))
-          (more slot);
+          ⊎_elim (λ (still : _). let none = before.unheard key slot was in omega arith)
+          (λ (one : _). absurd (named_stays shape state kept id view desk at is key slot was one.3)) (more slot);
     } in
     hears_after state.views id view next at
     (λ _ slot other _ _ _ _ his _. absurd (no_reader next.role other writes his)) (λ _. hears) kept.hears

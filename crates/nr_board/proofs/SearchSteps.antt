@@ -3,7 +3,7 @@
 use Rattle.std.proofs.Common.{◌≡◌, ℕ, suc, zero, ◌+◌, ◌-◌, ◌<◌, ◌≤◌, ◌⊎◌, ⊎_elim, inl, inr, List, [], ◌∷◌, ◌++◌, Bool}
 use Rattle.std.proofs.Common.{true, false, cond, length, map, get_or, set, nat_eq, eq-eqb, refl, sym, ap, ◌∙◌, subst}
 use Rattle.std.proofs.Common.{arith, append-nil}
-use Rattle.std.specs.Prelude.{nat_lt, Some, None, ◌&&◌}
+use Rattle.std.specs.Prelude.{nat_lt, Some, None}
 use Rattle.std.proofs.lemmas.Bool.{eqb-true, ltb-true}
 use mathlib.Core.Option.{some, some-injective, some-ne-none}
 use lib.ListN.{get_elem?}
@@ -15,7 +15,8 @@ use Rattle.nr_model.specs.Maps.{filled_count, reply_to}
 use Rattle.nr_model.specs.declared.calls.Reply.TheVariants as reply
 use Rattle.nr_model.specs.declared.rows.Row.{Row}
 use Rattle.nr_words.specs.KeyWords.{same_count}
-use Rattle.nr_core.proofs.Choices.{by_cases, on_test}
+use Rattle.nr_core.proofs.Choices.{either, on_test}
+use Rattle.nr_core.proofs.Guards.{both}
 use Rattle.nr_core.proofs.Counting.{slots_are}
 use Rattle.nr_core.proofs.Learn.{learns}
 use Rattle.nr_core.proofs.Settle.{gives_up, tries}
@@ -162,8 +163,7 @@ HasReader own views =
 reader_there : (views : List View) (own : ℕ) → HasReader own views ⊎ HasNoReader own views
 reader_there [] own = inr (λ id view at. absurd (some-ne-none view (sym at)))
 reader_there (view ∷ views) own =
-    by_cases (λ (_ : Bool). HasReader own (view ∷ views) ⊎ HasNoReader own (view ∷ views)) (is_by (suc own) view.role)
-    (λ his. inl (0, view, refl, his))
+    either (is_by (suc own) view.role) (λ his. inl (0, view, refl, his))
     (λ other. ⊎_elim (λ (t : HasReader own views). inl (suc t.0, t.1, t.2, t.3))
     (λ (none_there : HasNoReader own views). inr (each other none_there)) (reader_there views own))
   where
@@ -272,8 +272,8 @@ module _ (shape : Shape) (id own : ℕ) (view : View) (desk : Desk) (call : Writ
 
   searched : Result
   searched =
-      by_cases (λ b. keeps_unheard desk own found view.heard ≡ b → Result) (keeps_unheard desk own found view.heard)
-      (λ _ keeps_it. let loud : 0 < found = ltb-true 0 found (first_of (nat_lt 0 found) _ keeps_it) in ⊎_elim
+      either (keeps_unheard desk own found view.heard)
+      (λ keeps_it. let loud : 0 < found = ltb-true 0 found (both (nat_lt 0 found) _ keeps_it).0 in ⊎_elim
       (λ (t : HasReader own state.views).
       let r = reader_role t.1.role own t.3 in
       searched_with (base ++ past (suc own) r.0 t.1.marks ∷ [])
@@ -293,15 +293,11 @@ module _ (shape : Shape) (id own : ℕ) (view : View) (desk : Desk) (call : Writ
       (let told = kept.told_of id view at (let one = ap is_writer is in omega arith) in omega arith) in
       omega arith))
       (reader_there state.views own))
-      (λ _ lets_it. searched_with base
+      (λ lets_it. searched_with base
       (scans_marked role_of marks_of shape id view view.pasts desk call rows is_at is base begins loads 0 kept.counted
       state.views kept.log kept.core kept.marked kept.once at (knows_pasts shape id view state kept at) loaded.after
       loaded.entries loaded.told)
-      (subst (λ (b : Bool). NotesKeeper b own found base base) (sym lets_it) refl)) refl
-    where
-      first_of : (a b : Bool) → (a && b) ≡ true → a ≡ true
-      first_of true b e = refl
-      first_of false b e = e
+      (subst (λ (b : Bool). NotesKeeper b own found base base) (sym lets_it) refl))
 
 pub searches_so : (shape : Shape) (slots id own : ℕ) (me : Me (Unit {0}) View) (desk : Desk) (call : WriterCall)
     (rows : List Row)

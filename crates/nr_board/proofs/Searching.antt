@@ -1,7 +1,7 @@
 -- The search for a slot: each retired one is polled in order, until one is not held.
 use Rattle.std.proofs.Common.{◌≡◌, ℕ, ◌+◌, ◌-◌, ◌<◌, ◌≤◌, List, [], ◌∷◌, ◌++◌, length-append, Bool, true, false, cond}
-use Rattle.std.proofs.Common.{length, refl, sym, ap, ◌∙◌, subst, arith, append-nil, ◌⊎◌, inl, inr}
-use Rattle.std.proofs.Common.{get_or, take, take_all}
+use Rattle.std.proofs.Common.{length, refl, sym, ap, ◌∙◌, subst, arith, append-nil, ◌⊎◌, inl, inr, get_or, take}
+use Rattle.std.proofs.Common.{take_all}
 use Rattle.nr_core.proofs.ListPlaces.{inside}
 use Rattle.std.proofs.lemmas.Bool.{lt-ltb, le-ltb}
 use Rattle.std.specs.Prelude.{nat_lt, remove}
@@ -17,14 +17,13 @@ use Rattle.nr_core.specs.Writer.{taking_retired}
 use Rattle.nr_core.specs.declared.calls.NoSlot.{NoSlot}
 use Rattle.nr_core.specs.declared.calls.Step.{Step}
 use Rattle.nr_core.specs.declared.calls.Step.TheVariants.{Ended, Going}
-use Rattle.nr_core.specs.declared.calls.WReply.TheVariants as writer
 use Rattle.nr_core.specs.declared.calls.WriterCall.{WriterCall}
 use Rattle.nr_core.specs.declared.places.Place.TheVariants.{Idle, Putting, Searching}
 use Rattle.nr_core.specs.declared.places.Retired.{Retired}
 use Rattle.nr_core.specs.declared.roles.Desk.{Desk}
 use Rattle.nr_core.specs.declared.shape.Shape.{Shape}
-use Rattle.nr_board.proofs.HeldPolls.{held_many, none_passed, polled_before, up_to_polled}
-use Rattle.nr_board.proofs.HeldSlots.{misses_probe, note_kept, slot_kept, vain_free, vain_none, vain_on}
+use Rattle.nr_board.proofs.HeldSlots.{held_many, none_passed, polled_before, up_to_polled, misses_probe, note_kept}
+use Rattle.nr_board.proofs.HeldSlots.{slot_kept, vain_free, vain_none, vain_on}
 use Rattle.nr_board.proofs.Passes.{takes_by}
 use Rattle.nr_board.proofs.PollNotes.{StandsAt, at_get, there_is}
 use Rattle.nr_board.proofs.Tokens.{grows_none}
@@ -40,6 +39,7 @@ use Rattle.nr_core.specs.MarkSteps.{PollTells}
 use Rattle.nr_core.specs.Marks.{Marks, Past, with_scan}
 use Rattle.nr_core.specs.PollNotes.{Noted}
 use Rattle.nr_board.specs.WriterSeats.{GoesOn, GoesTo, LacksSlot, LeadsIn, MapSeat, Settles, swept, TakesSlot, WritesAt}
+use Rattle.nr_core.specs.declared.calls.WReply.TheVariants as writer
 
 -- a search of a counted map passes no slot by
 abbrev none_by : ℕ → Bool
@@ -104,8 +104,7 @@ module
 
   pub searching_at : polls < length lists.retired → WritesAt table desk_now mid
   searching_at low =
-      subst (λ (o : Desk × Step). WritesAt table o.0 mid)
-      (swept_more table.shape (desk_with lists Idle) call rows polls low) so_far.writes
+      rw (swept_more table.shape (desk_with lists Idle) call rows polls low) at so_far.writes
 
   module _ {entry : Retired} (here : StandsAt lists.retired polls entry) {found : ℕ} {after : MapSeat}
       (goes : GoesOn table found mid after) where
@@ -136,11 +135,8 @@ module
         let agrees = ap (λ (e : Retired). same_count found e.arrivals) (sym entry_is) ∙ agree in
         let outcome = ap Outcome agrees in (
           outcome,
-          subst (λ (o : Desk × Step). LeadsIn 1 table (call_of call) o mid after) outcome told.leads,
-          subst
-              (λ (b : Bool). PollTells b table.shape mid.me.0.pasts desk_now call polls after.me.0.seen
-              mid.me.0.marks after.me.0.marks)
-              agrees told.marks.1,
+          rw outcome at told.leads,
+          rw agrees at told.marks.1,
         )
 
     readers_are : table.shape.readers ≡ before.me.0.shape.readers
@@ -212,9 +208,7 @@ pub lacks_slot : {table : Table} {call : WriterCall} {rows : List Row} {lists : 
 lacks_slot {table = table} {call = call} {rows = rows} {lists = lists} {before = before} {after = after} {polls = polls}
     so_far counted all =
     let is = swept_all table.shape (desk_with lists Idle) call rows polls (omega arith) in
-    let each : InVain (not_passed none_by lists.retired) before after
-    = subst (λ (l : List Retired). InVain (not_passed none_by l) before after)
-    (take_all polls lists.retired (omega arith)) so_far.vain in
+    let each = rw (take_all polls lists.retired (omega arith)) at so_far.vain in
     let whole = none_passed none_by lists.retired (λ _. refl) in
     let polls_are : after.me.0.marks.polls ≡ each.held.notes
     = ap (λ (m : Marks). m.polls) each.held.marks ∙ ap (λ (l : List Past). l ++ each.held.notes) so_far.begun in
@@ -224,7 +218,7 @@ lacks_slot {table = table} {call = call} {rows = rows} {lists = lists} {before =
       steps = length lists.retired;
       loads = held_polls lists.retired;
       searched = inl (counted, each.heard, refl, sym (held_many lists.retired));
-      grows = subst (λ (l : List Retired). Grows (length l) [] (token before) (token after)) whole each.grows;
+      grows = rw whole at each.grows;
       lacks =
           so_far.short (all_taken lists)
           (ap (λ (o : Desk × Step). o.1) is

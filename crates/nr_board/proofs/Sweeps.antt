@@ -7,11 +7,9 @@ use Rattle.std.specs.Prelude.{nat_lt, ◌||◌}
 use lib.ListN.{get_elem?}
 use mathlib.Core.Option.{some, some-injective}
 use Rattle.atomic_table.specs.Table.{Allows, Me}
-use Rattle.nr_model.specs.Histories.{entries_of}
 use Rattle.nr_words.specs.KeyWords.{same_count}
 use Rattle.nr_core.proofs.Learn.{learns}
 use Rattle.nr_core.proofs.WordPlaces.{same_departures}
-use Rattle.nr_core.specs.Core.{AreNumbers}
 use Rattle.nr_core.specs.Roles.{holds, is_reader, is_writer}
 use Rattle.atomic_table.proofs.Lists.{at_map}
 use Rattle.nr_core.specs.Steps.{LoadsWord}
@@ -27,12 +25,12 @@ use Rattle.nr_core.specs.declared.shape.Shape.{Shape}
 use Rattle.nr_core.proofs.ReapMarks.{probes_marked}
 use Rattle.nr_core.specs.Marks.{Marks, OfSlot, with_reaped, with_scan}
 use Rattle.nr_core.specs.MarkSteps.{ProbeTells, ProbesMarks}
-use Rattle.nr_board.proofs.HeldPolls.{held_many, polled_before, split_here, up_to_passed, up_to_polled}
-use Rattle.nr_board.proofs.HeldSlots.{held_free, held_none, held_on}
+use Rattle.nr_board.proofs.HeldSlots.{held_many, polled_before, split_here, up_to_passed, up_to_polled, held_free}
+use Rattle.nr_board.proofs.HeldSlots.{held_none, held_on}
 use Rattle.nr_board.proofs.Lift.{knows_pasts, lends_on, lifts, sees_alone}
 use Rattle.nr_board.proofs.Moves.{ActsGo, waited, waiting as learns_nothing}
 use Rattle.nr_board.proofs.PollNotes.{StandsAt, at_get}
-use Rattle.nr_board.specs.Callers.{Caller, Table, caller_of, map_seen, token}
+use Rattle.nr_board.specs.Callers.{Table}
 use Rattle.nr_board.specs.Entries.{AreCallers}
 use Rattle.nr_board.specs.Plays.{Room}
 use Rattle.nr_board.specs.Reaping.{ProbesAt, ProbesTo, SomeWait, SweepsFor, SweptTo, is_passed, ready_before, waiting}
@@ -107,6 +105,12 @@ probes_so shape slots id me desk poll entry is idle here heard =
 
 -- THE SWEEP
 
+-- the entry that is at a place of the list
+pub entry_at : {retired : List Retired} {place end : ℕ} {entry : Retired} → entry ≡ get_or retired place no_retired
+    → place < end → end ≡ length retired → StandsAt retired place entry
+entry_at {retired = retired} {place = place} is low end_is =
+    record { is = at_get retired place (omega arith) ∙ ap some (sym is) }
+
 -- a retired slot is one of the map's
 pub retired_near : {table : Table} {lists : SlotLists} {seat : MapSeat} {place : ℕ} {entry : Retired}
     → RestsAt table lists seat → StandsAt lists.retired place entry → entry.slot < lists.slots
@@ -148,9 +152,7 @@ module
   pub swept_past : reaped this.slot ≡ true → SweptTo lists before mid (place + 1) waits
   swept_past gone =
       passed waits
-      (subst (λ (l : List Retired). SomeWait l before.me.0 mid.me.0 waits)
-      (sym (up_to_passed reaped here gone)) so_far.some_wait)
-      (ap (λ (b : Bool). b || unheard this.slot) gone)
+      (rw (up_to_passed reaped here gone) so_far.some_wait) (ap (λ (b : Bool). b || unheard this.slot) gone)
 
   this_waits : reaped this.slot ≡ false → 0 < length waiting_then
   this_waits stays =
@@ -168,11 +170,6 @@ module
       (tells : ProbesTo table.shape this found mid.me.0 after.me.0) where
     polled : is_passed lists before.me.0 this.slot ≡ false
     polled = λ j. stays j || near j
-
-    told_of : (answer : Bool) → same_count found this.arrivals ≡ answer
-        → ProbeTells answer table.shape this.slot mid.me.0.marks after.me.0.marks
-    told_of answer agree =
-        subst (λ (b : Bool). ProbeTells b table.shape this.slot mid.me.0.marks after.me.0.marks) agree tells.1
 
     -- one step more
     view_on : after.me.0
@@ -195,7 +192,7 @@ module
               rw more
               (held_on so_far.held this after.me.0 table.shape
               (sym (ap (λ (t : Table). t.shape.readers) rests.writes.own))
-              (polled_before passes here rests.writes.room.apart) (told_of false apart));
+              (polled_before passes here rests.writes.room.apart) (rw apart at tells.1));
           view = view_on ∙ (λ j. record before.me.0 { steps = steps j; marks = after.me.0.marks });
           some_wait = this_waits stays;
         }
@@ -210,7 +207,7 @@ module
         let marks : after.me.0.marks
         ≡ with_reaped (with_scan view.marks (view.marks.polls ++ so_far.held.notes) (view.marks.loads ++ polls))
         this.slot
-        = told_of true agree ∙ ap (λ (m : Marks). with_reaped m this.slot) (held_free so_far.held this refl) in (
+        = rw agree at tells.1 ∙ ap (λ (m : Marks). with_reaped m this.slot) (held_free so_far.held this refl) in (
           held,
           not_passed (is_passed lists view) (drop (place + 1) lists.retired),
           this,
@@ -232,31 +229,6 @@ swept_first lists seat (suc count) known =
     = record { is = at_get lists.retired count (omega (arith, known.0)) } in
     let next = swept_past earlier here (known.1 count (omega arith)) in
     subst (λ place. SweptTo lists seat seat place false) (omega arith) next
-
--- THE SEAT
-
--- the seat rests with its slots after steps that leave all but its marks and what it heard
-module _ {table : Table} {lists : SlotLists} {before : MapSeat} (after : MapSeat) {steps : ℕ} {marks : Marks}
-    {heard : List ℕ} (rests : RestsAt table lists before)
-    (own : after.table_id ≡ before.table_id)
-    (view : after.me.0 ≡ record before.me.0 { steps = steps; marks = marks; heard = heard }) where
-  pub token_after : token after ≡ record (token before) { steps = steps; marks = marks; heard = heard }
-  token_after = λ j. caller_of (own j) (view j)
-
-  pub rests_after : (lists' : SlotLists) → lists' ≡ record lists { reaped = marks.reaped } → RestsAt table lists' after
-  rests_after lists' is = subst (λ (s : SlotLists). RestsAt table s after) (sym is) (record {
-    writes = record {
-      own = ap (λ (c : Caller). c.table) token_after ∙ rests.writes.own;
-      role = ap (λ (v : View). v.role) view ∙ rests.writes.role;
-      room = rests.writes.room;
-      numbers =
-          subst (λ (c : Caller). AreNumbers table.shape (map_seen c) lists.numbers) (sym token_after)
-          rests.writes.numbers;
-    };
-    slots = rests.slots;
-    reaped = sym (ap (λ (v : View). v.marks.reaped) view);
-    own = subst (λ (c : Caller). entries_of c.seen c.number ≡ c.mine) (sym token_after) rests.own;
-  })
 
 -- a retired slot can be polled
 pub probes_at : {table : Table} {lists : SlotLists} {before now : MapSeat} {place : ℕ} {waits : Bool} {entry : Retired}

@@ -1,13 +1,11 @@
 -- A whole scan, word by word, as the writer's seat makes it: in a search, and between two calls.
-use Rattle.std.proofs.lemmas.Bool.{false≢true, lt-ltb, ltb-false, ltb-true}
-use Rattle.std.proofs.Common.{◌≡◌, ℕ, suc, ◌+◌, ◌<◌, ◌≤◌, List, [], ◌∷◌, ◌++◌, Bool, cond, length, get_or, refl, sym}
+use Rattle.std.proofs.lemmas.Bool.{false≢true}
+use Rattle.std.proofs.Common.{◌≡◌, ℕ, suc, ◌+◌, ◌<◌, ◌≤◌, List, [], ◌∷◌, ◌++◌, Bool, length, get_or, refl, sym}
 use Rattle.std.proofs.Common.{ap, ◌∙◌, subst, arith}
-use Rattle.std.specs.Prelude.{nat_lt}
 use mathlib.Core.Logic.{dite}
 use mathlib.Core.Option.{some, some-ne-none}
 use native.Mathlib.Decide.{ℕ_discrete}
 use lib.ListN.{get_elem?}
-use Rattle.nr_core.proofs.Choices.{on_test}
 use Rattle.nr_core.proofs.Sums.{only-is, only-le, only-other, some_term}
 use Rattle.nr_core.specs.Roles.{retirements}
 use Rattle.nr_core.specs.Sums.{only}
@@ -15,7 +13,7 @@ use Rattle.nr_core.specs.declared.places.Retired.{Retired}
 use Rattle.nr_core.specs.declared.roles.Desk.{Desk}
 use Rattle.nr_core.specs.declared.roles.Role.TheVariants.{Writer}
 use Rattle.nr_core.specs.Marks.{with_scan}
-use Rattle.nr_board.proofs.WordLoads.{heard_of_at, words_begin, words_many, words_more, words_told}
+use Rattle.nr_board.proofs.WordLoads.{heard_of_at, unsaid_few, words_begin, words_many, words_more, words_told}
 use Rattle.nr_board.specs.Flags.{Flagged, OthersFlagged}
 use Rattle.nr_board.specs.Scans.{heard_from}
 use Rattle.nr_board.specs.Callers.{Table, token}
@@ -24,11 +22,12 @@ use Rattle.nr_core.specs.declared.places.Place.TheVariants.{Idle}
 use Rattle.nr_board.specs.SearchSeats.{HearsWord, ScansAt, SearchesIn, SearchesOn}
 use Rattle.nr_board.specs.SlotLists.{desk_with}
 use Rattle.nr_board.specs.Views.{View}
-use Rattle.nr_board.specs.WordLoads.{heard_of, unsaid, word_load}
+use Rattle.nr_board.specs.WordLoads.{heard_of, word_load}
 use Rattle.nr_board.specs.WriterSeats.{MapSeat, RestsAt}
 use Rattle.nr_core.specs.SlotLists.{SlotLists}
 use Rattle.nr_core.specs.declared.shape.Shape.{Shape}
 use Rattle.nr_board.specs.WholeScans.{LoadedTo, NoneFlagged, RestsHearing, ScannedTo, announced}
+use Rattle.nr_board.proofs.Passes.{searches_on}
 use Rattle.nr_board.proofs.PollNotes.{is_retired}
 use Rattle.nr_board.proofs.ScannedWords.{announced_wide, flags_more, keep_so, misses_none, more_flags}
 
@@ -54,13 +53,14 @@ module _ (shape : Shape) (desk : Desk) (room : Room shape desk) where
           = at_most l slot
           (λ one other a b at_a at_b same.
           let e = apart (suc one) (suc other) a b at_a at_b same in omega arith) in
-          dite (ℕ_discrete x.slot slot)
-          (λ e. dite (ℕ_discrete (retirements slot l) 0) (λ none. let most = only-le slot x.slot in omega arith)
-          (λ more. absurd
-          (let t = some_term (λ (y : Retired). only slot y.slot) l (omega arith) in
-          let clash = apart 0 (suc t.0) x t.1 refl t.2 (e ∙ sym (only-is slot t.1.slot t.3)) in
-          omega arith)))
-          (λ ne. let none = only-other slot x.slot ne in omega arith)
+          let most = only-le slot x.slot in
+          dite (ℕ_discrete (retirements slot l) 0) (λ none. omega arith)
+          (λ more. let t = some_term (λ (y : Retired). only slot y.slot) l (omega arith) in
+          let other
+          = only-other slot x.slot
+          (λ e. let clash = apart 0 (suc t.0) x t.1 refl t.2 (e ∙ sym (only-is slot t.1.slot t.3)) in
+          absurd (omega arith)) in
+          omega arith)
 
 -- the scan so far, as the writer's seat makes it
 pub record ScanGoes (table : Table) (retired : List Retired) (before now : MapSeat) (flags : List Bool)
@@ -144,30 +144,16 @@ pub scan_flagged : {table : Table} {retired : List Retired} {before now : MapSea
 scan_flagged {table = table} {retired = retired} {before = before} {now = now} {flags = flags} some_words sized inside
     goes =
     let so_far = goes.loaded.words in
-    let heard : (slot : ℕ) → get_or now.me.0.heard slot 0
-    ≡ cond (nat_lt slot table.shape.slots) (heard_of retired so_far.words slot) 0
-    = λ slot. ap (λ (l : List ℕ). get_or l slot 0) (so_far.tell some_words)
-    ∙ heard_of_at retired so_far.words before.me.0.shape.slots slot
-    ∙ ap (λ (s : Shape). cond (nat_lt slot s.slots) (heard_of retired so_far.words slot) 0) sized in
-    let told : (slot : ℕ) → 0 < retirements slot retired → get_or now.me.0.heard slot 0 ≡ unsaid slot so_far.words
-    = λ slot waits. heard slot
-    ∙ rw (lt-ltb slot table.shape.slots (inside slot waits), lt-ltb 0 (retirements slot retired) waits) refl in record {
+    let each = so_far.each in
+    let told : (slot : ℕ) → get_or now.me.0.heard slot 0 ≡ heard_of retired so_far.words slot
+    = λ slot. let is = heard_of_at retired so_far.words before.me.0.shape.slots slot in
+    let within = inside slot in
+    rw (so_far.tell some_words, is, sized) (grind arith) in record {
       wide = goes.wide;
-      whole = λ slot unset. dite (ℕ_discrete (retirements slot retired) 0)
-          (λ none. absurd (false≢true (sym unset ∙ goes.others slot none)))
-          (λ some_there.
-          let waits : 0 < retirements slot retired = omega arith in
-          let all = ltb-false _ _ (sym (goes.loaded.flags_tell slot waits) ∙ unset) in
-          omega (arith, told slot waits, all, so_far.each));
-      stuck = λ slot flag. dite (ℕ_discrete (retirements slot retired) 0)
-          (λ none.
-          let quiet : cond (nat_lt slot table.shape.slots) (heard_of retired so_far.words slot) 0 ≡ 0
-          = on_test (λ (n : ℕ). n ≡ 0) (nat_lt slot table.shape.slots) (λ _. rw none refl) (λ _. refl) in
-          omega (arith, heard slot, quiet))
-          (λ some_there.
-          let waits : 0 < retirements slot retired = omega arith in
-          let few = ltb-true _ _ (sym (goes.loaded.flags_tell slot waits) ∙ flag) in
-          omega (arith, told slot waits, few, so_far.each));
+      whole = λ slot unset. let is = told slot in let tell = goes.loaded.flags_tell slot in
+          let few = unsaid_few slot so_far.words in let set = goes.others slot in grind arith;
+      stuck = λ slot flag. let is = told slot in let tell = goes.loaded.flags_tell slot in
+          let few = unsaid_few slot so_far.words in grind arith;
       others = goes.others;
     }
 
@@ -220,21 +206,10 @@ scan_goes {table = table} {before = before} {now = now} {next = next} {flags = f
     (subst (λ (l : List Retired). ScannedTo l before.me.0 now.me.0 flags own) (sym listed) so_far.scanned) told in
     record {
       goes = rw (sym listed) goes;
-      search = record {
-        search = record {
-          own =
-              (λ j. record { id = same j; shape = (told.same j).shape; announcers = (told.same j).announcers })
-              ∙ search.own;
-          desk = desk;
-          role = ap (λ (v : View). v.role) told.same ∙ search.role;
-          room = search.room;
-          call = search.call;
-          rows = search.rows;
-          place = search.place;
-        };
-        retired = listed;
-        slots = so_far.search.slots;
-      };
+      search =
+          searches_on so_far.search
+          (λ j. record { id = same j; shape = (told.same j).shape; announcers = (told.same j).announcers })
+          (ap (λ (v : View). v.role) told.same);
       scanned = rw (sym listed) (record { loaded = goes.loaded; keep = keep });
     }
 
@@ -243,8 +218,7 @@ pub search_flagged : {table : Table} {lists : SlotLists} {before now : MapSeat} 
     → Flagged table lists.retired now.me.0.heard flags
 search_flagged {table = table} some_words search so_far =
     scan_flagged some_words (ap (λ (t : Table). t.shape) search.search.own)
-    (subst (λ (l : List Retired). (slot : ℕ) → 0 < retirements slot l → slot < table.shape.slots) search.retired
-    (retired_inside table.shape search.search.desk search.search.room)) so_far.goes
+    (rw (sym search.retired) (retired_inside table.shape search.search.desk search.search.room)) so_far.goes
 
 -- BETWEEN TWO CALLS
 

@@ -1,12 +1,11 @@
 -- What a whole scan tells, load by load: after each load what was heard is what the words so far tell.
 use Rattle.std.proofs.Common.{◌≡◌, ◌≢◌, ℕ, suc, zero, ◌+◌, ◌<◌, ◌≤◌, List, [], ◌∷◌, ◌++◌, cond, length, get_or}
 use Rattle.std.proofs.Common.{nat_eq, refl, sym, ap, ◌∙◌, arith, append_assoc, append-nil, length-append}
-use Rattle.std.proofs.lemmas.Bool.{lt-ltb, ltb-false, ltb-true}
+use Rattle.std.proofs.lemmas.Bool.{lt-ltb}
 use Rattle.std.proofs.lemmas.List.{nil_from_length}
 use Rattle.std.specs.Prelude.{nat_lt, ◌||◌}
 use mathlib.Core.Logic.{dite}
 use native.Mathlib.Decide.{ℕ_discrete}
-use Rattle.nr_core.proofs.Choices.{by_cases}
 use Rattle.nr_core.specs.declared.places.Retired.{Retired}
 use Rattle.nr_core.specs.declared.roles.Desk.{Desk}
 use Rattle.nr_core.specs.Marks.{Marks, Past, LoggedLoad, with_polls, with_scan}
@@ -83,29 +82,17 @@ module _ (desk : Desk) (found : ℕ) where
         ∷ next_from heard (suc slot) more (λ at low high. so at (omega arith) (omega arith)) j
 
 -- what was heard of a slot
-heard_inside : (retired : List Retired) (words : List ℕ) (slot more at : ℕ) → at < more
-    → get_or (heard_by retired words slot more) at 0 ≡ heard_of retired words (slot + at)
-heard_inside retired words slot zero at low = absurd (omega arith)
-heard_inside retired words slot (suc more) zero low =
-    let same : slot ≡ slot + 0 = omega arith in ap (heard_of retired words) same
-heard_inside retired words slot (suc more) (suc at) low =
-    let same : suc slot + at ≡ slot + suc at = omega arith in
-    heard_inside retired words (suc slot) more at (omega arith) ∙ ap (heard_of retired words) same
-
-heard_outside : (retired : List Retired) (words : List ℕ) (slot more at : ℕ) → more ≤ at
-    → get_or (heard_by retired words slot more) at 0 ≡ 0
-heard_outside retired words slot zero at past = refl
-heard_outside retired words slot (suc more) zero past = absurd (omega arith)
-heard_outside retired words slot (suc more) (suc at) past = heard_outside retired words (suc slot) more at (omega arith)
+heard_by_at : (retired : List Retired) (words : List ℕ) (slot more at : ℕ)
+    → get_or (heard_by retired words slot more) at 0 ≡ cond (nat_lt at more) (heard_of retired words (slot + at)) 0
+heard_by_at retired words slot zero at = grind arith
+heard_by_at retired words slot (suc more) zero = let same : slot ≡ slot + 0 = omega arith in grind arith
+heard_by_at retired words slot (suc more) (suc at) = let same : suc slot + at ≡ slot + suc at = omega arith in
+    rw (sym same) (grind (arith, heard_by_at retired words (suc slot) more at))
 
 pub heard_of_at : (retired : List Retired) (words : List ℕ) (slots at : ℕ)
     → get_or (heard_by retired words 0 slots) at 0 ≡ cond (nat_lt at slots) (heard_of retired words at) 0
 heard_of_at retired words slots at =
-    let same : 0 + at ≡ at = omega arith in
-    by_cases (λ b. get_or (heard_by retired words 0 slots) at 0 ≡ cond b (heard_of retired words at) 0)
-    (nat_lt at slots)
-    (λ low. heard_inside retired words 0 slots at (ltb-true at slots low) ∙ ap (heard_of retired words) same)
-    (λ high. heard_outside retired words 0 slots at (ltb-false at slots high))
+    let same : 0 + at ≡ at = omega arith in rw same at (heard_by_at retired words 0 slots at)
 
 -- THE SCAN
 

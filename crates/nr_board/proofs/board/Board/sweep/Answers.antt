@@ -1,4 +1,4 @@
-use Rattle.std.proofs.Common.{ap, arith, get_or, refl, sym, false, Bool, List, ℕ, ◌<◌, ◌∙◌}
+use Rattle.std.proofs.Common.{ap, arith, get_or, sym, false, Bool, List, ℕ, ◌<◌, ◌∙◌}
 use Rattle.std.proofs.Common.{◌≡◌}
 use Rattle.std.specs.Prelude.{nat_lt}
 use Rattle.nr_core.specs.SlotLists.{SlotLists}
@@ -8,8 +8,7 @@ use Rattle.nr_board.specs.Flags.{IsFlagged}
 use Rattle.nr_board.specs.WholeScans.{is_flagged}
 use Rattle.nr_board.specs.WriterSeats.{MapSeat, RestsAt}
 use Rattle.nr_board.proofs.Sweeps.{probes_at, retired_near, swept_first, swept_more, swept_past, swept_unheard}
-use Rattle.nr_board.proofs.PollNotes.{stands_at}
-use Rattle.nr_board.proofs.Sweeps.{sweeps_free}
+use Rattle.nr_board.proofs.Sweeps.{entry_at, sweeps_free}
 use Rattle.nr_board.proofs.board.Board.sweep.Goals.{then-not-is_reaped+then-not-is_flagged+else-same_count}
 use Rattle.nr_board.proofs.board.Board.sweep.Goals.{then-not-is_reaped+else-not-is_flagged, else-not-is_reaped}
 use Rattle.nr_board.proofs.board.Board.sweep.Goals as goal
@@ -19,16 +18,12 @@ loop-place-init c = swept_first c.args.lists.now c.args.seat.now c.passed-first.
 
 pub is_reaped-requires : goal.is_reaped-requires
 is_reaped-requires c =
-    let here
-    = stands_at {before = c.args.lists.now} refl c.retired_at-entry.ensures c.loop-place-test.true
-    c.retired_len-place-end.ensures in
+    let here = entry_at c.retired_at-entry.ensures c.loop-place-test.true c.retired_len-place-end.ensures in
     retired_near c.requires.rests here
 
 pub is_flagged-requires : goal.is_flagged-requires
 is_flagged-requires c =
-    let here
-    = stands_at {before = c.args.lists.now} refl c.retired_at-entry.ensures c.loop-place-test.true
-    c.retired_len-place-end.ensures in
+    let here = entry_at c.retired_at-entry.ensures c.loop-place-test.true c.retired_len-place-end.ensures in
     record {
       wide = λ some_words. omega (
         arith,
@@ -49,9 +44,7 @@ told_of {map = map} {lists = lists} {flags = flags} {seat = seat} rests flagged 
 
 pub probe-departures-requires : goal.probe-departures-requires
 probe-departures-requires c =
-    let here
-    = stands_at {before = c.args.lists.now} refl c.retired_at-entry.ensures c.loop-place-test.true
-    c.retired_len-place-end.ensures in
+    let here = entry_at c.retired_at-entry.ensures c.loop-place-test.true c.retired_len-place-end.ensures in
     let far
     = told_of c.requires.rests c.requires.flagged _ c.is_flagged.result c.is_flagged.ensures.none
     c.is_flagged.ensures.flag in
@@ -59,9 +52,7 @@ probe-departures-requires c =
 
 pub returns-then-same_count-clause-sweeps : goal.returns-then-same_count-clause-sweeps
 returns-then-same_count-clause-sweeps c =
-    let here
-    = stands_at {before = c.args.lists.now} refl c.retired_at-entry.ensures c.loop-place-test.true
-    c.retired_len-place-end.ensures in
+    let here = entry_at c.retired_at-entry.ensures c.loop-place-test.true c.retired_len-place-end.ensures in
     let probed = c.probe-departures in
     let far
     = told_of c.requires.rests c.requires.flagged _ c.is_flagged.result
@@ -74,9 +65,7 @@ pub loop-place-preserved : goal.loop-place-preserved
 loop-place-preserved c =
     let so_far = c.loop-place.invariant in
     let rests = c.requires.rests in
-    let here
-    = stands_at {before = c.args.lists.now} refl c.retired_at-entry.ensures c.loop-place-test.true
-    c.retired_len-place-end.ensures in
+    let here = entry_at c.retired_at-entry.ensures c.loop-place-test.true c.retired_len-place-end.ensures in
     elim c.if-not-is_reaped.branch [
       | then-not-is_reaped+then-not-is_flagged+else-same_count w ↦ let probed = w.probe-departures in
           let far
