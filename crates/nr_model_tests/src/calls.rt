@@ -103,7 +103,7 @@ pub(crate) fn replies<R: Abort + AllocGlobal>(
     for (call, wanted) in calls {
         assert!(rt; call.key() < map.keys() && fits(call, map.rows()));
         let reply = format!(in rt.alloc(); "{:?}", map.call(call))?;
-        assert_eq!(rt; reply.as_str(), *wanted, "to {call:?}");
+        is_same(rt, &reply.as_str(), wanted);
     }
     Ok(())
 }

@@ -249,7 +249,7 @@ fn numbers_of(rt: &impl Abort, replies: &Replies) -> [u32; 5] {
         assert!(rt; numbers[i] < 5, "numbers have no gaps");
         named[numbers[i] as usize] = true;
     }
-    assert_eq!(rt; named, [true; 5], "no two words share a number");
+    is_same(rt, &named, &[true; 5]);
     numbers
 }
 

@@ -9,5 +9,5 @@ pub(crate) fn is_same<T: Debug + PartialEq, R: Abort>(rt: &R, got: &T, wanted: &
 
 /// The two have the same items.
 pub(crate) fn are_same<T: Debug + PartialEq, R: Abort>(rt: &R, got: &[T], wanted: &[T]) {
-    assert_eq!(rt; got, wanted);
+    is_same(rt, &got, &wanted);
 }

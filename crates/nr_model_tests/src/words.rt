@@ -149,8 +149,8 @@ fn words_that_spell_no_set(rt: HostRuntime) {
 /// The rows `1:0`, `2:0`, .. `255:0`.
 fn most_rows() -> [Row; MAX_ROWS] {
     let mut rows = [row(0, 0); MAX_ROWS];
-    for (a, row) in (1..).zip(rows.iter_mut()) {
-        row.a = a;
+    for at in 0..MAX_ROWS {
+        rows[at].a = at as u64 + 1;
     }
     rows
 }
@@ -159,8 +159,8 @@ fn most_rows() -> [Row; MAX_ROWS] {
 fn words_of_most_rows() -> [u64; MAX_CONTENT_WORDS] {
     let mut words = [0; MAX_CONTENT_WORDS];
     words[0] = 255;
-    for (a, word) in (1..).zip(words.iter_mut().skip(1).step_by(2)) {
-        *word = a;
+    for a in 1..=MAX_ROWS {
+        words[2 * a - 1] = a as u64;
     }
     words
 }
