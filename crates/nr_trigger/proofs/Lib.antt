@@ -1,9 +1,6 @@
 mod Parts
 mod Places
-mod Opening
-mod Seating
-mod Posting
-mod Taking
+mod Passes
 mod Moments
 mod Once
 mod Walks

@@ -1,4 +1,4 @@
-use Rattle.nr_trigger.proofs.Opening.{opening-delivers}
+use Rattle.nr_trigger.proofs.Passes.{opening-delivers}
 use Rattle.nr_trigger.proofs.triggers.seated.Goals as goal
 
 pub ruled-requires-clause-rule : goal.ruled-requires-clause-rule

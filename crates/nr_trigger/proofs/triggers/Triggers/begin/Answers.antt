@@ -1,4 +1,4 @@
-use Rattle.nr_trigger.proofs.Opening.{first-pass-becomes-takers}
+use Rattle.nr_trigger.proofs.Passes.{first-pass-becomes-takers}
 use Rattle.nr_trigger.proofs.triggers.Triggers.begin.Goals as goal
 
 pub another-spare-requires-clause-rule : goal.another-spare-requires-clause-rule

@@ -1,6 +1,6 @@
 use Rattle.crossbeam_queue.specs.Passes.{view}
 use Rattle.nr_trigger.proofs.Moments.{pass-learns-moment, pop-tells}
-use Rattle.nr_trigger.proofs.Taking.{taker-takes}
+use Rattle.nr_trigger.proofs.Passes.{taker-takes}
 use Rattle.nr_trigger.proofs.triggers.Triggers.pop.Goals as goal
 
 pub pop_as-requires-clause-rule : goal.pop_as-requires-clause-rule

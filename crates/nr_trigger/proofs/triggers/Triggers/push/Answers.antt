@@ -7,7 +7,7 @@ use Rattle.nr_trigger.specs.Posts.{IsNoteOf}
 use Rattle.nr_trigger.specs.Tokens.{PosterSeen, WasFull}
 use Rattle.nr_trigger.specs.Views.{has_posted}
 use Rattle.nr_trigger.proofs.Moments.{pass-learns-moment, push-tells}
-use Rattle.nr_trigger.proofs.Posting.{poster-posts}
+use Rattle.nr_trigger.proofs.Passes.{poster-posts}
 use Rattle.nr_trigger.proofs.triggers.Triggers.push.Goals as goal
 
 pub push_as-requires-clause-rule : goal.push_as-requires-clause-rule

@@ -1,4 +1,4 @@
-use Rattle.nr_trigger.proofs.Seating.{taker-makes-poster}
+use Rattle.nr_trigger.proofs.Passes.{taker-makes-poster}
 use Rattle.nr_trigger.proofs.triggers.Triggers.seat_poster.Goals as goal
 
 pub another-seat-requires-clause-rule : goal.another-seat-requires-clause-rule

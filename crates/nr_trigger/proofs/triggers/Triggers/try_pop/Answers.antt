@@ -2,7 +2,7 @@ use Rattle.std.proofs.Common.{ap, subst, ◌∙◌}
 use Rattle.nr_trigger.specs.Tokens.{WasEmpty, taker_seen, taker_tried}
 use Rattle.nr_trigger.specs.Views.{taking_of}
 use Rattle.nr_trigger.proofs.Moments.{empty-before}
-use Rattle.nr_trigger.proofs.Taking.{taker-takes}
+use Rattle.nr_trigger.proofs.Passes.{taker-takes}
 use Rattle.nr_trigger.proofs.triggers.Triggers.try_pop.Goals as goal
 
 pub try_pop_as-requires-clause-rule : goal.try_pop_as-requires-clause-rule

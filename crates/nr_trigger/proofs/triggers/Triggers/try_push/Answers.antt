@@ -2,7 +2,7 @@ use Rattle.std.proofs.Common.{◌<◌, ap, subst, sym, ◌∙◌}
 use Rattle.nr_trigger.specs.Tokens.{WasFull, poster_seen, poster_tried}
 use Rattle.nr_trigger.specs.Views.{posting_of}
 use Rattle.nr_trigger.proofs.Moments.{full-before}
-use Rattle.nr_trigger.proofs.Posting.{poster-posts}
+use Rattle.nr_trigger.proofs.Passes.{poster-posts}
 use Rattle.nr_trigger.proofs.triggers.Triggers.try_push.Goals as goal
 
 pub try_push_as-requires-clause-rule : goal.try_push_as-requires-clause-rule
