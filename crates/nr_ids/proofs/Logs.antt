@@ -23,13 +23,6 @@ pub own_this : (by : ℕ) (event : Event) (log : List Event) → maker event ≡
     → own by (event ∷ log) ≡ event ∷ own by log
 own_this by event log e = grind (arith, nat_tests)
 
-pub own_other : (by : ℕ) (event : Event) (log : List Event) → maker event ≢ by → own by (event ∷ log) ≡ own by log
-own_other by event log ne = grind (arith, nat_tests)
-
-pub own_none : (by : ℕ) (event : Event) (log : List Event) → own by (event ∷ log) ≡ []
-    → (maker event ≢ by) × (own by log ≡ [])
-own_none by event log none = grind (arith, nat_tests)
-
 pub own_append : (by : ℕ) (a b : List Event) → own by (a ++ b) ≡ own by a ++ own by b
 own_append by [] b = refl
 own_append by (event ∷ a) b = grind (arith, nat_tests, own_append by a b)
@@ -134,22 +127,6 @@ pub scan_shows : (plan : Plan) (log seen more : List Event) (id turn : ℕ) → 
     → 0 < id → turn % 2 ≡ 0 → turn_of plan log (group_of plan id) ≡ turn
     → Scanned plan seen id turn places → IsAbsent log id
 scan_shows plan log seen more id turn is legal real even now scan way has =
-    let group : ℕ = group_of plan id in
-    let at : IsWayOf plan id way = (named_inside plan log way id legal real has).1 in
-    let place : ℕ = at.0 in let pass = scan.passed place at.1 in let moment = pass.moment in
-    let from : log ≡ (more ++ pass.later) ++ moment = cc (is, pass.until, append_assoc more pass.later moment) in
-    let rose : turn_of plan scan.start group ≤ turn_of plan moment group
-    = rw pass.from (turn_rose plan pass.since scan.start group) in
-    let top = turn_rose plan (more ++ pass.later) moment group in
-    let other
-    = stays_unnamed plan (more ++ pass.later) moment (way_at plan id place) id (rw from at legal) in
-    let starts = scan.turn_is in let not = pass.other in let there = at.2 in
-    grind (arith, from)
-
-scan_shows_b : (plan : Plan) (log seen more : List Event) (id turn : ℕ) → log ≡ more ++ seen → IsLegal plan log
-    → 0 < id → turn % 2 ≡ 0 → turn_of plan log (group_of plan id) ≡ turn
-    → Scanned plan seen id turn places → IsAbsent log id
-scan_shows_b plan log seen more id turn is legal real even now scan way has =
     let group : ℕ = group_of plan id in
     let at : IsWayOf plan id way = (named_inside plan log way id legal real has).1 in
     let place : ℕ = at.0 in let pass = scan.passed place at.1 in let moment = pass.moment in
