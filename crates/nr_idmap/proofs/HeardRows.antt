@@ -1,7 +1,7 @@
 -- A way that had an id's rows has that id's until it is evicted, in a history whose writer puts tags. So who finds it
 -- by a note was answered with rows.
-use Rattle.std.proofs.Common.{◌≡◌, ℕ, ◌+◌, ◌<◌, ⊎_elim, inl, inr, Bool, false, List, [], ◌∷◌, ◌++◌, refl, sym, ap}
-use Rattle.std.proofs.Common.{◌∙◌, subst, arith, append_assoc}
+use Rattle.std.proofs.Common.{◌≡◌, ℕ, ◌+◌, ◌<◌, ⊎_elim, inl, inr, Bool, false, List, [], ◌∷◌, ◌++◌, refl, sym, ap, ◌∙◌}
+use Rattle.std.proofs.Common.{subst, arith, append_assoc}
 use Rattle.std.specs.List.{count_by}
 use Rattle.std.proofs.lemmas.List.{length-replicate, length-set}
 use Rattle.std.proofs.lemmas.Bool.Decides.{nat_tests}
@@ -13,8 +13,7 @@ use Rattle.nr_model.specs.declared.calls.Reply.TheVariants as reply
 use Rattle.nr_model.specs.declared.states.KeyState.{KeyState}
 use Rattle.nr_model.specs.declared.states.KeyState.TheVariants.{Hole, Rows}
 use Rattle.nr_model.specs.Histories.{Entry, IsLegal, after}
-use Rattle.nr_model.specs.Maps.{PartialMap, call_key, key_count, next, replace_reply}
-use Rattle.nr_model.specs.Maps.{reply_to, state_after, state_of}
+use Rattle.nr_model.specs.Maps.{PartialMap, call_key, key_count, next, replace_reply, reply_to, state_after, state_of}
 use Rattle.nr_model.proofs.HistoryLemmas.{count_by-cons, one, state_of-next_other, state_of-next_same}
 use Rattle.nr_core.specs.Story.{entry}
 use Rattle.nr_board.specs.Callers.{Table, map_at_opening}

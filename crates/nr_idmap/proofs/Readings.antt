@@ -2,7 +2,7 @@
 use Rattle.std.proofs.Common.{◌≡◌, ◌≢◌, ◌∙◌, ⊎_elim, ℕ, suc, ◌+◌, ◌<◌, ◌≤◌, ◌==◌, Bool, true, false, List, [], ◌∷◌}
 use Rattle.std.proofs.Common.{◌++◌, length, ap, subst, refl, sym, arith, Result, Ok, Err, Option, Some, None}
 use Rattle.std.specs.Prelude.{if◌then◌else◌}
-use Rattle.std.proofs.lemmas.Bool.{cases_Bool, cases_eq, cases_lt, eq-eqb, ne_eqb}
+use Rattle.std.proofs.lemmas.Bool.{cases_Bool, cases_eq, cases_lt, ne_eqb}
 use Rattle.std.proofs.lemmas.Bool.Decides.{nat_tests}
 use Rattle.std.proofs.lemmas.List.{get_or_past, length-replicate, get_or-replicate}
 use Rattle.nr_model.specs.declared.rows.Row.{Row}
@@ -33,9 +33,6 @@ abbrev Sets : Type 0
 Sets = ℕ → Option IdSet
 
 -- FUNCTIONS OF IDS
-same_id : (ids : Ids) (id other : ℕ) (left : Option (List Row)) → other ≡ id → with_id ids id left other ≡ left
-same_id ids id other left same = rw (eq-eqb other id same)
-
 other_id : (ids : Ids) (id other : ℕ) (left : Option (List Row)) → other ≢ id → with_id ids id left other ≡ ids other
 other_id ids id other left differs = rw (ne_eqb other id differs)
 

@@ -1,7 +1,6 @@
 -- What readers' entries leave: each key is as it was, but that a hole may be asked for. So names and sets agree still,
 -- and the same upqueries are open.
-use Rattle.std.proofs.Common.{◌≡◌, ℕ, ◌⊎◌, inl, Bool, true, cond, ◌==◌, List, [], ◌∷◌, refl}
-use Rattle.std.proofs.Common.{◌∙◌, arith}
+use Rattle.std.proofs.Common.{◌≡◌, ℕ, ◌⊎◌, inl, Bool, true, cond, ◌==◌, List, [], ◌∷◌, refl, ◌∙◌, arith}
 use Rattle.std.proofs.lemmas.Bool.Decides.{nat_tests}
 use Rattle.std.proofs.lemmas.List.{length-set}
 use Rattle.nr_model.specs.declared.calls.Call.{Call}

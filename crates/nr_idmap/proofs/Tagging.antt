@@ -1,7 +1,7 @@
 -- A batch of rows that stand behind a set's first one, as users' do behind a tag, leaves that where it is, and does to
 -- the others what it does to them alone.
-use Rattle.std.proofs.Common.{◌≡◌, ◌∙◌, ⊎_elim, ℕ, suc, ◌+◌, ◌<◌, Bool, false, not, cond, List, [], ◌∷◌, length}
-use Rattle.std.proofs.Common.{ap, refl, sym, arith, Result, Ok, Err}
+use Rattle.std.proofs.Common.{◌≡◌, ◌∙◌, ⊎_elim, ℕ, suc, ◌+◌, ◌<◌, Bool, false, not, cond, List, [], ◌∷◌, length, ap}
+use Rattle.std.proofs.Common.{refl, sym, arith, Result, Ok, Err}
 use Rattle.std.specs.List.{list_any, filter}
 use Rattle.std.specs.Prelude.{All, nat_lt, map}
 use Rattle.std.proofs.lemmas.Bool.{cases_Bool, cases_lt}

@@ -1,6 +1,6 @@
 -- The tie between the two tables, and the ledger, over a call on one way: the other ways keep theirs.
-use Rattle.std.proofs.Common.{◌≡◌, ◌≢◌, ℕ, zero, suc, ◌<◌, ⊎_elim, inl, List, ◌∷◌, refl, sym, ap}
-use Rattle.std.proofs.Common.{◌∙◌, arith, eq-eqb, Result, Option, Some, None}
+use Rattle.std.proofs.Common.{◌≡◌, ◌≢◌, ℕ, zero, suc, ◌<◌, ⊎_elim, inl, List, ◌∷◌, refl, sym, ap, ◌∙◌, arith, eq-eqb}
+use Rattle.std.proofs.Common.{Result, Option, Some, None}
 use Rattle.std.proofs.lemmas.Bool.{cases_eq}
 use Rattle.std.proofs.lemmas.Bool.Decides.{nat_tests}
 use Rattle.nr_model.specs.declared.rows.Row.{Row}
