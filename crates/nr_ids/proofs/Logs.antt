@@ -91,7 +91,8 @@ module _ (plan : Plan) where
       → IsOpen plan log group → turn_of plan (rest ++ log) group ≡ turn_of plan log group
   quiet_turn [] log group quiet legal odd = refl
   quiet_turn (event ∷ rest) log group quiet legal odd =
-      let was = quiet_turn rest log group (own_clears_nothing 0 event rest quiet) legal.1 odd in grind (arith, nat_tests)
+      let was = quiet_turn rest log group (own_clears_nothing 0 event rest quiet) legal.1 odd in
+      grind (arith, nat_tests)
 
   -- no turn goes past the last one, which is even
   pub turn_bounded : (log : List Event) (group : ℕ) → IsLegal plan log → turn_of plan log group ≤ last_turn

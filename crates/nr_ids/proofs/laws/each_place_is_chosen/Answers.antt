@@ -92,7 +92,8 @@ named_soon marks (place ∷ places) far (bits, chooses, turns) low soon =
     → left + 8 * bit_at rest at < length places → Contains (place ∷ places) at
     = λ left near same less. Contains-append_right (place ∷ []) places at
     (rw same (named_soon rest places left turns near (rw same at less))) in
-    let here : place ≡ at → Contains (place ∷ places) at = λ e. rw (← e) (Contains-get_or (place ∷ places) 0 0 (omega arith)) in
+    let here : place ≡ at → Contains (place ∷ places) at
+    = λ e. rw (← e) (Contains-get_or (place ∷ places) 0 0 (omega arith)) in
     let stays = bit_stays marks place bits chooses far low in
     let gone = bit_passed marks place bits chooses far in
     let set = chooses.marked far in
