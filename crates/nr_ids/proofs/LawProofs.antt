@@ -28,7 +28,8 @@ until plan Holds ends keeps (event ∷ rest) log legal holds =
 odd_until_cleared : (plan : Plan) (rest log : List Event) (group : ℕ) → IsLegal plan (rest ++ log)
     → IsOpen plan log group → Has (cleared group) rest ⊎ IsOpen plan (rest ++ log) group
 odd_until_cleared plan rest log group =
-    until plan (λ seen. IsOpen plan seen group) (cleared group) (λ event seen may odd. grind (arith, nat_tests)) rest log
+    until plan (λ seen. IsOpen plan seen group) (cleared group) (λ event seen may odd. grind (arith, nat_tests))
+    rest log
 
 pub one_claim : OneClaim
 one_claim plan rest log by id other twin legal same =
