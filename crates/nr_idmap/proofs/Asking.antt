@@ -1,12 +1,12 @@
 -- A way without a name that the writer's own reader asked for is asked for, as the writer knows it then, and its
 -- upquery is the only one that was opened.
-use Rattle.std.proofs.Common.{◌≡◌, ◌≢◌, ℕ, ◌<◌, ⊎_elim, List, [], ◌∷◌, ◌++◌, refl, sym, ap, ◌∙◌}
-use Rattle.std.proofs.Common.{arith, append_assoc, append-nil, Ok, Err}
-use Rattle.std.proofs.lemmas.Bool.{cases_eq}
+use Rattle.std.proofs.Common.{◌≡◌, ◌≢◌, ℕ, ◌<◌, List, [], ◌∷◌, ◌++◌, refl, sym, ap, ◌∙◌, arith, append_assoc}
+use Rattle.std.proofs.Common.{append-nil, Ok, Err}
+use Rattle.std.proofs.lemmas.Bool.Decides.{nat_tests}
 use Rattle.std.proofs.lemmas.List.{append_cancel_left, length-replicate}
 use Rattle.nr_model.specs.declared.calls.Call.TheVariants.{Ask}
 use Rattle.nr_model.specs.declared.states.KeyState.{KeyState}
-use Rattle.nr_model.specs.declared.states.KeyState.TheVariants.{Hole, Asked, Rows}
+use Rattle.nr_model.specs.declared.states.KeyState.TheVariants.{Hole, Asked}
 use Rattle.nr_model.specs.Histories.{Entry, after, entries_of}
 use Rattle.nr_model.specs.Maps.{PartialMap, asked as asked_after, key_count, next, number_of, state_of}
 use Rattle.nr_model.proofs.HistoryLemmas.{state_of-next_same}
@@ -26,7 +26,7 @@ use Rattle.nr_ids.specs.Groups.{group_of_way, ways}
 use Rattle.nr_ids.specs.Tokens as ids
 use Rattle.nr_ids.proofs.Admitting.{admits_by, refusal_looks}
 use Rattle.nr_ids.proofs.Calls.{clerk_names, grows_none, looks_leave}
-use Rattle.nr_ids.proofs.Logs.{cond_else, looks_names}
+use Rattle.nr_ids.proofs.Logs.{looks_names}
 use Rattle.nr_idmap.specs.Asking.{AsksWay}
 use Rattle.nr_idmap.specs.IdWrites.{AdmitsId, RefusesId}
 use Rattle.nr_idmap.specs.Keepers.{Agrees, IsTied, keeper_of}
@@ -36,8 +36,8 @@ use Rattle.nr_idmap.proofs.Ties.{Leaves, clerk_tied, owed_asked, rested_of, reti
 use Rattle.nr_idmap.proofs.WayCalls.{still_asked}
 
 both_empty : (xs ys : List Entry) → xs ++ ys ≡ [] → (xs ≡ []) × (ys ≡ [])
-both_empty [] ys none = (refl, none)
-both_empty (x ∷ xs) ys none = absurd (cc (none))
+both_empty [] ys none = grind arith
+both_empty (x ∷ xs) ys none = grind arith
 
 -- what the writer learnt is steps without an entry
 abbrev like : Caller → Caller → Caller
@@ -60,11 +60,7 @@ grown {old = old} learns = record {
 
 -- whose word is another caller, that knows the same
 rested_like : (old : Caller) {new : Caller} → Rested (like old new) → Rested new
-rested_like old rested = record {
-  number = rested.number;
-  sound = record { legal = rested.sound.legal; own = rested.sound.own; callers = rested.sound.callers };
-  tidy = rested.tidy;
-}
+rested_like old rested = search
 
 pub learnt : {steps : ℕ} {old new : Caller} → Rested old → Learns steps old new → Stayed old new
 learnt {old = old} rested learns =
@@ -84,9 +80,7 @@ none_learnt {steps} {old} {new} rested learns = rw (← rested.number)
     (none_between steps old [] (like old new) rested.sound.own refl (grown learns))
 
 unnamed_asked : (state : KeyState) → Agrees 0 state → asked_after state ≡ Asked (number_of state)
-unnamed_asked (Hole n) agrees = refl
-unnamed_asked (Asked n) agrees = refl
-unnamed_asked (Rows n rows) agrees = let real = agrees.0 in absurd (omega arith)
+unnamed_asked state agrees = grind arith
 
 module _ (way : ℕ) {a w a' w' : Caller} (rested : Rested w) (asks : AsksWay way a w a' w') where
   stepped : Rested (with_step w)
@@ -168,9 +162,7 @@ module _ {w a w' a' : Caller} {c c' : Token} (tied : IsTied (keeper_of w a c)) (
   name_else : (k : ℕ) → k ≢ way → name_of c'.seen k ≡ name_of c.seen k
   name_else k other =
       let count = (admits_by id way c c' admits).0 in
-      clerk_names c acts c' k tied.names.1 grows
-      ∙ cond_else id (name_of (looks count c.number ++ c.seen) k) way k (λ e. other (sym e))
-      ∙ looks_names count c.number c.seen k
+      grind (arith, nat_tests, clerk_names c acts c' k tied.names.1 grows, looks_names count c.number c.seen k)
 
   near : way < w.table.shape.keys
   near = omega (arith, admits.2.inside, ap (λ (d : Opened). ways d.plan) grows.directory, tied.ways_are)
@@ -179,10 +171,8 @@ module _ {w a w' a' : Caller} {c c' : Token} (tied : IsTied (keeper_of w a c)) (
   asked_now = asks_asked way (rested_of tied) asks (rw admits.1 at (tied.agrees way)) near
 
   agrees_now : (k : ℕ) → Agrees (name_of c'.seen k) (state_of (map_seen w') k)
-  agrees_now k = ⊎_elim
-      (λ (at : k ≡ way). rw (at, asked_now.1) tt)
-      (λ (off : k ≢ way). rw (name_else k off) (agrees_still (name_of c.seen k) (tied.agrees k) (stays.still k)))
-      (cases_eq k way)
+  agrees_now k =
+      grind (arith, asked_now.1, name_else k, agrees_still (name_of c.seen k) (tied.agrees k) (stays.still k))
 
   pub admitted_tied : IsTied (keeper_of w' a' c')
   admitted_tied = retied tied stays.rested stays.table

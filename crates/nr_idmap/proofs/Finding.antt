@@ -10,8 +10,8 @@ use Rattle.nr_ids.specs.Tokens.{Token}
 use Rattle.nr_idmap.specs.declared.finds.FoundId.{FoundId}
 use Rattle.nr_idmap.specs.declared.finds.FoundId.TheVariants as found
 use Rattle.nr_idmap.specs.declared.finds.NamedWay.{NamedWay}
-use Rattle.nr_idmap.specs.IdFinds.{FindsById, FindsByName, FindsInside, LooksForWay, MarksTold, answer_told}
-use Rattle.nr_idmap.specs.IdFinds.{line_of, with_line}
+use Rattle.nr_idmap.specs.IdFinds.{FindsById, FindsByName, FindsInside, LooksForWay, MarksTold, answer_told, line_of}
+use Rattle.nr_idmap.specs.IdFinds.{with_line}
 use Rattle.nr_idmap.specs.Keepers.{IdCaller}
 use Rattle.nr_idmap.specs.Tags.{tag_of}
 

@@ -51,11 +51,10 @@ asked_first id old asked again = ⊎_elim
     (λ holds. let vain = again.0 holds in record {
       table = vain.asks.grows.table;
       more = vain.asks.grows.between;
-      seen = vain.asks.grows.seen ∙ append-nil (old.hand.reader.seen ++ vain.asks.grows.between);
+      seen = rw (vain.asks.grows.seen, append-nil);
       ids = vain.ids;
     })
-    (λ other. rw (again.1 other)
-    (record { table = refl; more = []; seen = sym (append-nil old.hand.reader.seen); ids = refl }))
+    (λ other. rw (again.1 other) (record { table = refl; more = []; seen = rw append-nil; ids = refl }))
     (held_or_not id old.id)
 
 -- a find of a way by a hand is one entry, whichever way it found

@@ -1,21 +1,19 @@
 -- A way that had an id's rows has that id's until it is evicted, in a history whose writer puts tags. So who finds it
 -- by a note was answered with rows.
-use Rattle.std.proofs.Common.{◌≡◌, ◌≢◌, ℕ, ◌+◌, ◌<◌, ⊎_elim, inl, inr, Bool, false, List, [], ◌∷◌, ◌++◌}
-use Rattle.std.proofs.Common.{refl, sym, ap, ◌∙◌, subst, arith, append_assoc}
+use Rattle.std.proofs.Common.{◌≡◌, ℕ, ◌+◌, ◌<◌, ⊎_elim, inl, inr, Bool, false, List, [], ◌∷◌, ◌++◌, refl, sym, ap, ◌∙◌}
+use Rattle.std.proofs.Common.{subst, arith, append_assoc}
 use Rattle.std.specs.List.{count_by}
-use Rattle.std.proofs.lemmas.Bool.{cases_eq}
 use Rattle.std.proofs.lemmas.List.{length-replicate, length-set}
 use Rattle.std.proofs.lemmas.Bool.Decides.{nat_tests}
 use Rattle.nr_model.specs.declared.rows.Row.{Row}
 use Rattle.nr_model.specs.declared.calls.Call.{Call}
-use Rattle.nr_model.specs.declared.calls.Call.TheVariants.{Find, Ask, Fill, Update, Replace, Evict, Cancel}
+use Rattle.nr_model.specs.declared.calls.Call.TheVariants.{Find, Update, Replace, Evict}
 use Rattle.nr_model.specs.declared.calls.Reply.{Reply}
 use Rattle.nr_model.specs.declared.calls.Reply.TheVariants as reply
 use Rattle.nr_model.specs.declared.states.KeyState.{KeyState}
 use Rattle.nr_model.specs.declared.states.KeyState.TheVariants.{Hole, Rows}
 use Rattle.nr_model.specs.Histories.{Entry, IsLegal, after}
-use Rattle.nr_model.specs.Maps.{PartialMap, asked, call_key, cancelled, filled, key_count, next}
-use Rattle.nr_model.specs.Maps.{replace_reply, replaced, reply_to, state_after, state_of, updated}
+use Rattle.nr_model.specs.Maps.{PartialMap, call_key, key_count, next, replace_reply, reply_to, state_after, state_of}
 use Rattle.nr_model.proofs.HistoryLemmas.{count_by-cons, one, state_of-next_other, state_of-next_same}
 use Rattle.nr_core.specs.Story.{entry}
 use Rattle.nr_board.specs.Callers.{Table, map_at_opening}
@@ -37,8 +35,7 @@ Kept map history = IsLegal map history × IsTidy map history
 pub kept_begins : (map : PartialMap) (history later : List Entry) → Kept map (history ++ later) → Kept map history
 kept_begins map [] later kept = (tt, tt)
 kept_begins map (e ∷ history) later kept =
-    let rest = kept_begins (next map e.call) history later (kept.0.1, kept.1.2) in
-    ((kept.0.0, rest.0), (kept.1.0, kept.1.1, rest.1))
+    let rest = kept_begins (next map e.call) history later (kept.0.1, kept.1.2) in search
 
 pub kept_ends : (map : PartialMap) (history later : List Entry) → Kept map (history ++ later)
     → Kept (after map history) later
@@ -47,9 +44,8 @@ kept_ends map (e ∷ history) later kept = kept_ends (next map e.call) history l
 
 pub count_both : (p : Entry → Bool) (log later : List Entry)
     → count_by p (log ++ later) ≡ count_by p log + count_by p later
-count_both p [] later = let none : count_by p [] ≡ 0 = refl in omega (arith, none)
-count_both p (e ∷ log) later =
-    omega (arith, count_by-cons p e (log ++ later), count_by-cons p e log, count_both p log later)
+count_both p [] later = grind arith
+count_both p (e ∷ log) later = grind (arith, count_by-cons, count_both p log later)
 
 -- the entry evicts nothing, where it counts for nothing and is of that key
 pub none_evicted : (way : ℕ) (e : Entry) → call_key e.call ≡ way → one (evicts_at way e) ≡ 0
@@ -71,11 +67,8 @@ module _ (way : ℕ) (Has : KeyState → Type 0) where
   all_stay (e ∷ later) map near keep has =
       let size : key_count (next map e.call) ≡ key_count map
       = length-set map.states (call_key e.call) (state_after map.bound e.call (state_of map (call_key e.call))) in
-      all_stay later (next map e.call) (omega (arith, near, size)) keep.1 (⊎_elim
-      (λ (same : call_key e.call ≡ way).
-      rw (← same, state_of-next_same map e.call (omega (arith, near, same))) (keep.0 same (rw same has)))
-      (λ (other : call_key e.call ≢ way). rw (state_of-next_other map way e.call other) has)
-      (cases_eq (call_key e.call) way))
+      all_stay later (next map e.call) (omega (arith, near, size)) keep.1
+      (grind (arith, state_of-next_same map e.call, state_of-next_other map way e.call, keep.0))
 
 module _ (id : ℕ) (real : 0 < id) where
   -- the id's rows
@@ -87,22 +80,15 @@ module _ (id : ℕ) (real : 0 < id) where
       → KeepsTags map call answer → 0 < map.bound →
       is_evicted answer ≡ false → HasIds (state_of map (call_key call))
       → HasIds (state_after map.bound call (state_of map (call_key call)))
-  call_keeps map (Find key) answer replied keeps room none has = has
-  call_keeps map (Ask key) answer replied keeps room none has = (has.0, has.1, ap asked has.2)
-  call_keeps map (Fill key number new) answer replied keeps room none has = (has.0, has.1, ap (filled number new) has.2)
   call_keeps map (Update key batch) answer replied keeps room none has =
       let left = update_agrees id map.bound batch (Rows has.0 (tag_of id ∷ has.1)) room keeps (real, has.1, refl) in
-      (has.0, left.1, ap (updated map.bound batch) has.2 ∙ ap (Rows has.0) left.2)
+      (has.0, left.1, cc (has.2, left.2))
   call_keeps map (Replace key new) answer replied keeps room none has =
       let brings = keeps (replied ∙ ap replace_reply has.2) in
-      let same : id ≡ brings.id = brings.same (record { id = id; rows = has.1 }) (ap id_set_of has.2) in (
-        has.0,
-        brings.others,
-        ap (replaced new) has.2
-            ∙ ap (Rows has.0) (brings.tagged ∙ ap (λ (k : ℕ). tag_of k ∷ brings.others) (sym same)),
-      )
-  call_keeps map (Evict key) answer replied keeps room none has = absurd (cc (rw (replied, has.2) at none))
-  call_keeps map (Cancel key) answer replied keeps room none has = (has.0, has.1, ap cancelled has.2)
+      let same : id ≡ brings.id = brings.same (record { id = id; rows = has.1 }) (ap id_set_of has.2) in
+      (has.0, brings.others, cc (has.2, brings.tagged, same))
+  call_keeps map (Evict key) answer replied keeps room none has = absurd (cc (none, replied, has.2))
+  call_keeps map call answer replied keeps room none has = (has.0, has.1, cc (has.2))
 
   ids_keep : (way : ℕ) (later : List Entry) (map : PartialMap) → 0 < map.bound → Kept map later
       → count_by (evicts_at way) later ≡ 0 →

@@ -1,6 +1,5 @@
 -- The laws of the writer by id, and of its ledger.
-use Rattle.std.proofs.Common.{◌≡◌, ℕ, suc, ◌<◌, ◌⊎◌, inl, inr, List, [], ◌∷◌, ◌++◌, refl, sym, ap, ◌∙◌}
-use Rattle.std.proofs.Common.{arith, Some, None}
+use Rattle.std.proofs.Common.{◌≡◌, ℕ, suc, ◌<◌, ◌⊎◌, inl, inr, List, [], ◌∷◌, ◌++◌, refl, ap, ◌∙◌, arith, Some, None}
 use Rattle.nr_model.specs.declared.rows.Row.{Row}
 use Rattle.nr_model.specs.declared.calls.Call.TheVariants.{Find}
 use Rattle.nr_model.specs.declared.calls.Reply.TheVariants as reply
@@ -39,31 +38,26 @@ heard_finds keeper old new steps key bound id rows tied size table heard gains =
 -- what is open for a way tells the way, its name and its number
 pub owed_tells : (way name : ℕ) (state : KeyState) (owed : Owed) → owed_for way name state ≡ Some owed →
     (owed.way ≡ way) × (owed.id ≡ name) × (0 < name) × (state ≡ Asked owed.number)
-owed_tells way (suc name) (Asked number) owed is =
-    let same : record { way = way; number = number; id = suc name } ≡ owed = cc (is) in (
-      ap (λ (o : Owed). o.way) (sym same),
-      ap (λ (o : Owed). o.id) (sym same),
-      omega arith,
-      ap (λ (o : Owed). Asked o.number) same,
-    )
-owed_tells way name state owed is = absurd (cc (is))
+owed_tells way name state owed is = grind arith
 
 pub one_upquery : OneUpquery
-one_upquery keeper way other owed twin tied here there same =
-    let a = owed_tells way (name_at keeper way) (state_at keeper way) owed here in
-    let b = owed_tells other (name_at keeper other) (state_at keeper other) twin there in
-    let at : way ≡ other
-    = one_way keeper.table.directory.plan keeper.clerk.seen way other (name_at keeper way) tied.legal a.2 refl
-    (sym b.1 ∙ sym same ∙ a.1) in
-    let e : Some owed ≡ Some twin = sym here ∙ ap (owed_at keeper) at ∙ there in cc (e)
+one_upquery keeper way other owed twin tied here there same = grind (
+  arith,
+  owed_tells way (name_at keeper way) (state_at keeper way) owed here,
+  owed_tells other (name_at keeper other) (state_at keeper other) twin there,
+  one_way keeper.table.directory.plan keeper.clerk.seen way other (name_at keeper way) tied.legal,
+)
 
 -- a filled key whose set has an id's tag is the id's way
 pub resident_way : (keeper : Keeper) (id : ℕ) (rows : List Row) → IsTied keeper
     → (at : IsResident (map_seen keeper.writer) id rows) →
     (0 < id) × (name_at keeper at.0 ≡ id)
 resident_way keeper id rows tied at =
-    let its = set_named (name_at keeper at.0) (state_at keeper at.0) (record { id = id; rows = rows })
-    (tied.agrees at.0) (ap id_set_of at.1.1) in (omega (arith, its.0, its.1), sym its.1)
+    grind (
+      arith,
+      set_named (name_at keeper at.0) (state_at keeper at.0) (record { id = id; rows = rows })
+          (tied.agrees at.0) (ap id_set_of at.1.1),
+    )
 
 pub named_is_owed_or_resident : NamedIsOwedOrResident
 named_is_owed_or_resident keeper way tied real = go (state_at keeper way) refl (tied.agrees way) where

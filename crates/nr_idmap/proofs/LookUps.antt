@@ -1,10 +1,10 @@
 -- Look-ups of ids and of their ways' marks.
-use Rattle.std.proofs.Common.{◌≡◌, ℕ, ◌<◌, ◌⊎◌, ⊎_elim, inl, inr, List, [], ◌∷◌, ◌++◌, refl, sym, ap, ◌∙◌, subst}
-use Rattle.std.proofs.Common.{append_assoc, get_or, Bool, true, false, Option, Some, None}
+use Rattle.std.proofs.Common.{◌≡◌, ℕ, ◌<◌, ◌⊎◌, ⊎_elim, inl, inr, List, [], ◌∷◌, ◌++◌, refl, subst, append_assoc}
+use Rattle.std.proofs.Common.{get_or, Bool, true, false, Option, Some, None, arith}
 use Rattle.std.specs.Prelude.{IfSome}
 use Rattle.std.specs.List.{All}
 use Rattle.std.proofs.lemmas.List.Elements.{All-map}
-use Rattle.nr_ids.specs.Events.{Event, name_of, unnamed}
+use Rattle.nr_ids.specs.Events.{Event, name_of}
 use Rattle.nr_ids.specs.Laws.{FindsWhatItHeard}
 use Rattle.nr_ids.specs.Marks.{SetsMark}
 use Rattle.nr_ids.specs.Rule.{BeginsWith}
@@ -27,8 +27,7 @@ one_more_looked ids ways id found old mid new looked looks = absurd looked
 -- a way that the map has a key for has that key
 pub key_inside : (bound : ℕ) (at : Option NamedWay) → 0 < bound → IfSome at (λ named. named.way < bound)
     → key_named at < bound
-key_inside bound None some near = some
-key_inside bound (Some at) some near = near
+key_inside bound at some near = grind arith
 
 pub keys_inside : (bound : ℕ) (ways : List (Option NamedWay)) → 0 < bound → All (IsNear bound) ways
     → All (λ (key : ℕ). key < bound) (keys_named ways)
@@ -46,12 +45,8 @@ pub unnamed_on : (told : List Event) (way : ℕ) (seen more : List Event) → Is
     → IsUnnamedSince told way (more ++ seen)
 unnamed_on told way seen more gone = (
   more ++ gone.0,
-  ap (λ (l : List Event). more ++ l) gone.1 ∙ sym (append_assoc more gone.0 told),
-  (
-    more ++ gone.2.0,
-    gone.2.1,
-    ap (λ (l : List Event). more ++ l) gone.2.2 ∙ sym (append_assoc more gone.2.0 (unnamed way ∷ gone.2.1)),
-  ),
+  rw (gone.1, append_assoc),
+  (more ++ gone.2.0, gone.2.1, rw (gone.2.2, append_assoc)),
 )
 
 -- after a look or another step
@@ -69,10 +64,8 @@ set_on told way at false old new grows gone = grown_on told way _ old new grows 
 pub looks_there : FindsWhatItHeard → (note : Known) (id way : ℕ) (old new : Token) (there : Option NamedWay) → 0 < id
     → name_of note.seen way ≡ id → BeginsWith old.seen note.seen → LooksForWay id old new there
     → IsUnnamedSince note.seen way new.seen ⊎ (way_named there ≡ Some way)
-looks_there law note id way old new None real named heard looked = ⊎_elim
-    (λ (is : None ≡ Some way). inr is)
-    (λ gone. inl gone)
-    (law note id way old new None real named heard looked)
+looks_there law note id way old new None real named heard looked =
+    grind (arith, law note id way old new None real named heard looked)
 looks_there law note id way old new (Some at) real named heard looked = ⊎_elim
     (λ (is : Some at.way ≡ Some way). inr is)
     (λ gone. inl (grown_on note.seen way _ looked.0 new looked.2.looks gone))

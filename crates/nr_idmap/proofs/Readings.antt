@@ -1,13 +1,13 @@
 -- A tidy history of keys is a legal one of ids.
 use Rattle.std.proofs.Common.{◌≡◌, ◌≢◌, ◌∙◌, ⊎_elim, ℕ, suc, ◌+◌, ◌<◌, ◌≤◌, ◌==◌, Bool, true, false, List, [], ◌∷◌}
 use Rattle.std.proofs.Common.{◌++◌, length, ap, subst, refl, sym, arith, Result, Ok, Err, Option, Some, None}
-use Rattle.std.specs.Prelude.{if◌then◌else◌, replicate}
-use Rattle.std.proofs.lemmas.Bool.{cases_Bool, cases_eq, cases_lt, eq-eqb, ne_eqb}
+use Rattle.std.specs.Prelude.{if◌then◌else◌}
+use Rattle.std.proofs.lemmas.Bool.{cases_Bool, cases_eq, cases_lt, ne_eqb}
+use Rattle.std.proofs.lemmas.Bool.Decides.{nat_tests}
 use Rattle.std.proofs.lemmas.List.{get_or_past, length-replicate, get_or-replicate}
 use Rattle.nr_model.specs.declared.rows.Row.{Row}
 use Rattle.nr_model.specs.declared.batches.Delta.{Delta}
 use Rattle.nr_model.specs.declared.batches.ApplyFault.{ApplyFault}
-use Rattle.nr_model.specs.declared.batches.ApplyFault.TheVariants as fault
 use Rattle.nr_model.specs.declared.calls.Call.{Call}
 use Rattle.nr_model.specs.declared.calls.Call.TheVariants.{Find, Ask, Fill, Update, Replace, Evict, Cancel}
 use Rattle.nr_model.specs.declared.calls.Reply.TheVariants as reply
@@ -33,17 +33,13 @@ abbrev Sets : Type 0
 Sets = ℕ → Option IdSet
 
 -- FUNCTIONS OF IDS
-same_id : (ids : Ids) (id other : ℕ) (left : Option (List Row)) → other ≡ id → with_id ids id left other ≡ left
-same_id ids id other left same = rw (eq-eqb other id same) refl
-
 other_id : (ids : Ids) (id other : ℕ) (left : Option (List Row)) → other ≢ id → with_id ids id left other ≡ ids other
-other_id ids id other left differs = rw (ne_eqb other id differs) refl
+other_id ids id other left differs = rw (ne_eqb other id differs)
 
 id_stays : (ids : Ids) (id : ℕ) → with_id ids id (ids id) ≡ ids
 id_stays ids id = λ i. λ other. stays other i where
   stays : (other : ℕ) → with_id ids id (ids id) other ≡ ids other
-  stays other = ⊎_elim (λ (e : other ≡ id). same_id ids id other (ids id) e ∙ ap ids (sym e))
-      (λ (e : other ≢ id). other_id ids id other (ids id) e) (cases_eq other id)
+  stays other = grind (arith, nat_tests)
 
 -- SETS AND THE ROWS OF IDS
 -- the id with these rows, if there are some
@@ -53,9 +49,7 @@ set_with id (Some rows) = Some (record { id = id; rows = rows })
 
 set_is : (id : ℕ) (left : Option (List Row)) (set : IdSet) → set_with id left ≡ Some set
     → (set.id ≡ id) × (left ≡ Some set.rows)
-set_is id None set is = absurd (cc (is))
-set_is id (Some rows) set is = let same : record { id = id; rows = rows } ≡ set = cc (is) in
-    (ap (λ (s : IdSet). s.id) (sym same), ap (λ (s : IdSet). Some s.rows) same)
+set_is id left set is = grind arith
 
 record Matches (sets : Sets) (ids : Ids) : Type 0 where
   present : (key : ℕ) (set : IdSet) → sets key ≡ Some set → ids set.id ≡ Some set.rows
@@ -71,44 +65,20 @@ module _ (sets now : Sets) (ids : Ids) (key : ℕ) (matches : Matches sets ids)
   abbrev ids_now : Ids
   ids_now = with_id ids id left
 
-  here : (k : ℕ) (t : IdSet) → key ≡ k → now k ≡ Some t → (t.id ≡ id) × (left ≡ Some t.rows)
-  here k t same is = set_is id left t (sym new ∙ ap now same ∙ is)
-
-  was : (k : ℕ) (t : IdSet) → key ≢ k → now k ≡ Some t → sets k ≡ Some t
-  was k t off is = sym (others k off) ∙ is
-
   put_present : (k : ℕ) (t : IdSet) → now k ≡ Some t → ids_now t.id ≡ Some t.rows
-  put_present k t is = ⊎_elim
-      (λ (same : key ≡ k). let it = here k t same is in same_id ids id t.id left it.0 ∙ it.1)
-      (λ (off : key ≢ k). other_id ids id t.id left (free k t off (was k t off is))
-      ∙ matches.present k t (was k t off is))
-      (cases_eq key k)
+  put_present k t is = grind (arith, nat_tests, others k, matches.present k t, free k t, set_is id left t)
 
   put_only : (i : ℕ) (rows : List Row) → ids_now i ≡ Some rows
       → (k : ℕ) × (now k ≡ Some (record { id = i; rows = rows }))
   put_only i rows is = ⊎_elim
-      (λ (same : i ≡ id). (
-        key,
-        new ∙ ap (set_with id) (sym (same_id ids id i left same) ∙ is)
-            ∙ ap (λ (n : ℕ). Some (record { id = n; rows = rows })) (sym same),
-      ))
+      (λ (same : i ≡ id). (key, grind (arith, nat_tests)))
       (λ (other : i ≢ id). let had = matches.only i rows (sym (other_id ids id i left other) ∙ is) in
-      (had.0, others had.0 (λ same. other (kept (record { id = i; rows = rows }) (ap sets same ∙ had.1))) ∙ had.1))
+      (had.0, grind (arith, others had.0, kept (record { id = i; rows = rows }))))
       (cases_eq i id)
 
-  -- who has the key's id is the key
-  alone : (j k : ℕ) (s t : IdSet) → key ≡ j → now j ≡ Some s → now k ≡ Some t → s.id ≡ t.id → key ≡ k
-  alone j k s t at js kt same = ⊎_elim (λ (e : key ≡ k). e)
-      (λ (off : key ≢ k). absurd (free k t off (was k t off kt) (sym same ∙ (here j s at js).0))) (cases_eq key k)
-
   put_one : (j k : ℕ) (s t : IdSet) → now j ≡ Some s → now k ≡ Some t → s.id ≡ t.id → j ≡ k
-  put_one j k s t js kt same = ⊎_elim
-      (λ (at : key ≡ j). sym at ∙ alone j k s t at js kt same)
-      (λ (off : key ≢ j). ⊎_elim
-      (λ (at : key ≡ k). sym (alone k j t s at kt js (sym same)) ∙ at)
-      (λ (other : key ≢ k). matches.one j k s t (was j s off js) (was k t other kt) same)
-      (cases_eq key k))
-      (cases_eq key j)
+  put_one j k s t js kt same =
+      grind (arith, others j, others k, free j s, free k t, set_is id left s, set_is id left t, matches.one j k s t)
 
   put_matches : Matches now ids_now
   put_matches = record { present = put_present; only = put_only; one = put_one }
@@ -116,12 +86,11 @@ module _ (sets now : Sets) (ids : Ids) (key : ℕ) (matches : Matches sets ids)
 -- ONE ENTRY
 -- the parts of what the maps show
 matches_of : (map : PartialMap) (ids : PartialIds) → TellsIds map ids → Matches (set_at map) ids.rows_of
-matches_of map ids shows = record { present = shows.present; only = shows.only; one = shows.one }
+matches_of map ids shows = search
 
 shows_of : (map : PartialMap) (ids : PartialIds) → map.bound ≡ suc ids.bound → AllTagged map
     → Matches (set_at map) ids.rows_of → TellsIds map ids
-shows_of map ids bound tagged matches = record
-    { bound = bound; tagged = tagged; present = matches.present; only = matches.only; one = matches.one }
+shows_of map ids bound tagged matches = search
 
 -- a state that is tagged
 abbrev Tagged : KeyState → Type 0
@@ -130,22 +99,17 @@ Tagged state =
     → (id : ℕ) × (others : List Row) × (rows ≡ tag_of id ∷ others)
 
 hole_tagged : (m : ℕ) → Tagged (Hole m)
-hole_tagged m n rows is = absurd (cc (is))
+hole_tagged m n rows is = grind arith
 
 asked_tagged : (m : ℕ) → Tagged (Asked m)
-asked_tagged m n rows is = absurd (cc (is))
+asked_tagged m n rows is = grind arith
 
 rows_tagged : (m id : ℕ) (others : List Row) → Tagged (Rows m (tag_of id ∷ others))
-rows_tagged m id others n rows is = (id, others, cc (is))
+rows_tagged m id others n rows is = grind arith
 
 -- an id that no key has
 free_id : (map : PartialMap) (ids : PartialIds) (id : ℕ) → TellsIds map ids → IsNowhere map id → ids.rows_of id ≡ None
-free_id map ids id shows free = go (ids.rows_of id) refl where
-  go : (r : Option (List Row)) → ids.rows_of id ≡ r → ids.rows_of id ≡ None
-  go None is = is
-  go (Some rows) is =
-      let had = shows.only id rows is in
-      absurd (free had.0 (record { id = id; rows = rows }) had.1 refl)
+free_id map ids id shows free = grind (arith, shows.only id)
 
 module _ {map : PartialMap} {ids : PartialIds} (shows : TellsIds map ids) (call : Call)
     (near : call_key call < length map.states) {s : KeyState} (is : state_of map (call_key call) ≡ s) where
@@ -166,10 +130,8 @@ module _ {map : PartialMap} {ids : PartialIds} (shows : TellsIds map ids) (call 
 
   -- each key is tagged after it
   tagged_on : Tagged new → AllTagged now
-  tagged_on tagged k number rows there = ⊎_elim
-      (λ (same : key ≡ k). tagged number rows (sym is_new ∙ ap (state_of now) same ∙ there))
-      (λ (differs : key ≢ k). shows.tagged k number rows (sym (state_of-next_other map k call differs) ∙ there))
-      (cases_eq key k)
+  tagged_on tagged k number rows there =
+      grind (arith, is_new, state_of-next_other map k call, tagged number rows, shows.tagged k number rows)
 
   -- the key's set stays
   stays_by : id_set_of new ≡ id_set_of s → Tagged new → TellsIds now ids
@@ -227,8 +189,7 @@ module _ {map : PartialMap} {ids : PartialIds} (caller : ℕ) (shows : TellsIds 
   -- a cancel leaves no set and takes none
   cancel_asked : (b : Bool) (n : ℕ)
       → id_set_of (if b then Hole (n + 1) else Asked n) ≡ None × Tagged (if b then Hole (n + 1) else Asked n)
-  cancel_asked true n = (refl, hole_tagged (n + 1))
-  cancel_asked false n = (refl, asked_tagged n)
+  cancel_asked b n = grind arith
 
   filled_asked : (k number : ℕ) (rows : List Row) → k < length map.states → (n : ℕ) → state_of map k ≡ Asked n
       → (reply_at map.bound (Fill k number rows) (Asked n) ≡ reply.Done → BringsNewId map rows)
@@ -269,12 +230,8 @@ module _ {map : PartialMap} {ids : PartialIds} (caller : ℕ) (shows : TellsIds 
       (refl, tt),
       turns shows (Update k batch) near is (Some rows) (rw whole refl) (rw whole (rows_tagged n id rows)),
     )
-    by_answer (Err fault.NoRow) whole gives = rw (whole, had shows (Update k batch) near is, gives) (
-      (refl, tt),
-      turns shows (Update k batch) near is (Some old) (rw whole refl) (rw whole (rows_tagged n id old)),
-    )
-    by_answer (Err fault.TooMany) whole gives = rw (whole, had shows (Update k batch) near is, gives) (
-      (refl, tt),
+    by_answer (Err why) whole gives = rw (whole, had shows (Update k batch) near is, gives) (
+      (grind arith, tt),
       turns shows (Update k batch) near is (Some old) (rw whole refl) (rw whole (rows_tagged n id old)),
     )
 
@@ -342,9 +299,7 @@ reads_on (e ∷ history) map ids shows legal tidy =
 pub opened_hole : (keys rows number key : ℕ) → (n : ℕ) × (state_of (opening keys rows number) key ≡ Hole n)
 opened_hole keys rows number key = ⊎_elim
     (λ (near : key < keys). (number, get_or-replicate keys key (Hole number) (Hole 0) near))
-    (λ (far : keys ≤ key).
-    (0, get_or_past (replicate keys (Hole number)) key (Hole 0) (omega (arith, length-replicate keys (Hole number)))))
-    (cases_lt key keys)
+    (λ (far : keys ≤ key). (0, grind (arith, get_or_past, length-replicate))) (cases_lt key keys)
 
 opens : (keys bound number : ℕ) → TellsIds (opening keys (suc bound) number) (no_ids bound)
 opens keys bound number = record {
@@ -374,8 +329,7 @@ tidy_begins map [] later tidy = tt
 tidy_begins map (e ∷ history) later tidy = (tidy.0, tidy.1, tidy_begins (next map e.call) history later tidy.2)
 
 rows_found : (state : KeyState) (rows : List Row) → find_reply state ≡ reply.Rows rows → id_set_of state ≡ set_told rows
-rows_found (Rows n old) rows is = ap set_told (cc (is))
-rows_found state rows is = absurd (cc (is))
+rows_found state rows is = grind arith
 
 -- a find that answers with an id's tag answers the rows that the id has then
 pub finds_resident : (keys bound number : ℕ) (history : List Entry) (e : Entry) (key id : ℕ) (rows : List Row)

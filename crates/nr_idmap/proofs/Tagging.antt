@@ -1,7 +1,7 @@
 -- A batch of rows that stand behind a set's first one, as users' do behind a tag, leaves that where it is, and does to
 -- the others what it does to them alone.
-use Rattle.std.proofs.Common.{◌≡◌, ◌∙◌, ⊎_elim, ℕ, suc, ◌+◌, ◌<◌, Bool, true, false, not, cond, List, [], ◌∷◌, length}
-use Rattle.std.proofs.Common.{ap, refl, sym, arith, Result, Ok, Err}
+use Rattle.std.proofs.Common.{◌≡◌, ◌∙◌, ⊎_elim, ℕ, suc, ◌+◌, ◌<◌, Bool, false, not, cond, List, [], ◌∷◌, length, ap}
+use Rattle.std.proofs.Common.{refl, sym, arith, Result, Ok, Err}
 use Rattle.std.specs.List.{list_any, filter}
 use Rattle.std.specs.Prelude.{All, nat_lt, map}
 use Rattle.std.proofs.lemmas.Bool.{cases_Bool, cases_lt}
@@ -32,25 +32,17 @@ not_below row first above = grind (arith, nat_tests)
 not_first : (row first : Row) → first.a < row.a → row_eq first row ≡ false
 not_first row first above = grind (arith, nat_tests)
 
-with_behind : (rows : List Row) (row first : Row) → first.a < row.a
-    → with_row (first ∷ rows) row ≡ first ∷ with_row rows row
-with_behind rows row first above = rw (not_below row first above) refl
-
-without_behind : (rows : List Row) (row first : Row) → first.a < row.a
-    → without_row (first ∷ rows) row ≡ first ∷ without_row rows row
-without_behind rows row first above = rw (not_first row first above) refl
-
 with_all_behind : (more rows : List Row) (first : Row) → Above first more
     → with_all (first ∷ rows) more ≡ first ∷ with_all rows more
 with_all_behind [] rows first above = refl
 with_all_behind (row ∷ more) rows first above =
-    rw (with_behind rows row first above.0) (with_all_behind more (with_row rows row) first above.1)
+    grind (arith, not_below row first above.0, with_all_behind more (with_row rows row) first above.1)
 
 without_all_behind : (less rows : List Row) (first : Row) → Above first less
     → without_all (first ∷ rows) less ≡ first ∷ without_all rows less
 without_all_behind [] rows first above = refl
 without_all_behind (row ∷ less) rows first above =
-    rw (without_behind rows row first above.0) (without_all_behind less (without_row rows row) first above.1)
+    grind (arith, not_first row first above.0, without_all_behind less (without_row rows row) first above.1)
 
 abbrev one : Bool → ℕ
 one b = cond b 1 0
@@ -62,7 +54,7 @@ any_same : (p q : Row → Bool) (rows : List Row) (first : Row) → Above first 
     → ((row : Row) → first.a < row.a → p row ≡ q row) →
     list_any p rows ≡ list_any q rows
 any_same p q [] first above same = refl
-any_same p q (row ∷ rows) first above same = rw (same row above.0, any_same p q rows first above.1 same) refl
+any_same p q (row ∷ rows) first above same = rw (same row above.0, any_same p q rows first above.1 same)
 
 short_behind : (rows less : List Row) (first : Row) → Above first less
     → is_short (first ∷ rows) less ≡ is_short rows less
@@ -74,11 +66,7 @@ filtered_above : (keeps : Delta → Bool) (first : Row) (batch : List Delta) →
 filtered_above keeps first [] behind = tt
 filtered_above keeps first (delta ∷ batch) behind =
     let rest = filtered_above keeps first batch (All-tail (λ d. first.a < d.row.a) delta batch behind) in
-    elim (keeps delta) as
-    (λ b. Above first (map (λ (d : Delta). d.row) (cond b (delta ∷ filter keeps batch) (filter keeps batch)))) [
-      | true ↦ (behind 0 delta (omega arith), rest)
-      | false ↦ rest
-    ]
+    let here = behind 0 delta (omega arith) in grind arith
 
 abbrev pub put_first : Row → Result (List Row) ApplyFault → Result (List Row) ApplyFault
 put_first first (Ok rows) = Ok (first ∷ rows)
@@ -115,5 +103,4 @@ applied_behind bound first rows batch behind =
 -- rows behind a tag are a row set, and without it
 pub tagged_set : (bound id : ℕ) (rows : List Row) → IsIdSet bound rows → IsRowSet (bound + 1) (tag_of id ∷ rows)
 tagged_set bound id [] fits = (refl, omega arith)
-tagged_set bound id (row ∷ rows) fits = let above : 0 < row.a = fits.1 0 row (omega arith) in
-    (rw (not_below row (tag_of id) above) fits.0.0, omega (arith, fits.0.1))
+tagged_set bound id (row ∷ rows) fits = grind (arith, fits.1 0 row (omega arith), not_below row (tag_of id))

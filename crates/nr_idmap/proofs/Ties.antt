@@ -1,7 +1,6 @@
 -- The tie between the two tables, and the ledger, over a call on one way: the other ways keep theirs.
-use Rattle.std.proofs.Common.{◌≡◌, ◌≢◌, ℕ, zero, suc, ◌<◌, ⊎_elim, inl, true, false, ◌==◌, List, ◌∷◌, refl, sym}
-use Rattle.std.proofs.Common.{ap, ◌∙◌, arith, eq-eqb, Result, Ok, Err, Option, Some, None}
-use Rattle.std.specs.Prelude.{if◌then◌else◌}
+use Rattle.std.proofs.Common.{◌≡◌, ◌≢◌, ℕ, zero, suc, ◌<◌, ⊎_elim, inl, List, ◌∷◌, refl, sym, ap, ◌∙◌, arith, eq-eqb}
+use Rattle.std.proofs.Common.{Result, Option, Some, None}
 use Rattle.std.proofs.lemmas.Bool.{cases_eq}
 use Rattle.std.proofs.lemmas.Bool.Decides.{nat_tests}
 use Rattle.nr_model.specs.declared.rows.Row.{Row}
@@ -12,7 +11,7 @@ use Rattle.nr_model.specs.declared.calls.Call.TheVariants.{Fill, Replace}
 use Rattle.nr_model.specs.declared.calls.Reply.{Reply}
 use Rattle.nr_model.specs.declared.calls.Reply.TheVariants as reply
 use Rattle.nr_model.specs.declared.states.KeyState.{KeyState}
-use Rattle.nr_model.specs.declared.states.KeyState.TheVariants.{Hole, Asked, Rows}
+use Rattle.nr_model.specs.declared.states.KeyState.TheVariants.{Asked, Rows}
 use Rattle.nr_model.specs.Batches.{applied}
 use Rattle.nr_model.specs.Maps.{PartialMap, call_key, fill_reply, filled, replaced, reply_to, rows_or, state_of}
 use Rattle.nr_model.specs.Maps.{updated}
@@ -27,7 +26,7 @@ use Rattle.nr_ids.proofs.Calls.{LeavesNames, leaves_names, looks_leave}
 use Rattle.nr_ids.proofs.Logs.{one_way}
 use Rattle.nr_ids.proofs.Through.{way_looks}
 use Rattle.nr_idmap.specs.Keepers.{Agrees, IsTied, Keeper, OwesElse, OwesSame, keeper_of, owed_for}
-use Rattle.nr_idmap.specs.Tags.{AreIdDeltas, IdSet, set_at, id_set_of, set_told, tag_of}
+use Rattle.nr_idmap.specs.Tags.{AreIdDeltas, IdSet, set_at, id_set_of, tag_of}
 use Rattle.nr_idmap.specs.Tidy.{KeepsTags}
 use Rattle.nr_idmap.proofs.Entries.{Rested, Stayed, Went}
 use Rattle.nr_idmap.proofs.Stills.{agrees_still, owed_still}
@@ -37,29 +36,22 @@ use Rattle.nr_idmap.proofs.Tagging.{applied_behind, put_first}
 -- a key's set has its way's name
 pub set_named : (name : ℕ) (state : KeyState) (set : IdSet) → Agrees name state → id_set_of state ≡ Some set
     → (0 < name) × (set.id ≡ name)
-set_named name (Rows n rows) set agrees there =
-    let same : record { id = name; rows = agrees.1 } ≡ set = cc (ap set_told agrees.2, there) in
-    (agrees.0, ap (λ (s : IdSet). s.id) (sym same))
-set_named name state set agrees there = absurd (cc (there))
+set_named name state set agrees there = grind arith
 
 pub owed_none : (way name number : ℕ) (rows : List Row) → owed_for way name (Rows number rows) ≡ None
-owed_none way zero number rows = refl
-owed_none way (suc name) number rows = refl
+owed_none way name number rows = grind arith
 
 pub owed_asked : (way name number : ℕ) → 0 < name →
     owed_for way name (Asked number) ≡ Some (record { way = way; number = number; id = name })
-owed_asked way zero number real = absurd (omega arith)
-owed_asked way (suc name) number real = refl
+owed_asked way name number real = grind arith
 
 -- a fill is done where the key was asked for with its number, and else leaves the key
 pub fill_done : (number : ℕ) (state : KeyState) → fill_reply number state ≡ reply.Done → state ≡ Asked number
-fill_done number (Asked n) done = grind (arith, nat_tests)
-fill_done number state done = absurd (cc (done))
+fill_done number state done = grind (arith, nat_tests)
 
 pub fill_leaves : (number : ℕ) (rows : List Row) (state : KeyState) → fill_reply number state ≢ reply.Done →
     filled number rows state ≡ state
-fill_leaves number rows (Asked n) undone = grind (arith, nat_tests)
-fill_leaves number rows state undone = refl
+fill_leaves number rows state undone = grind (arith, nat_tests)
 
 pub fill_puts : (number : ℕ) (rows : List Row) (state : KeyState) → state ≡ Asked number
     → filled number rows state ≡ Rows number rows
@@ -71,44 +63,31 @@ Tagged name set = (0 < name) × (others : List Row) × (set ≡ tag_of name ∷ 
 
 pub fill_agrees : (name number : ℕ) (rows : List Row) (state : KeyState) → Tagged name rows → Agrees name state →
     Agrees name (filled number rows state)
-fill_agrees name number rows (Asked n) tagged agrees =
-    elim (n == number) as (λ b. Agrees name (if b then Rows n rows else Asked n)) [ true ↦ tagged | false ↦ tt ]
-fill_agrees name number rows state tagged agrees = agrees
+fill_agrees name number rows state tagged agrees = grind (arith, nat_tests)
 
 pub replace_agrees : (name : ℕ) (rows : List Row) (state : KeyState) → Tagged name rows → Agrees name state →
     Agrees name (replaced rows state)
-replace_agrees name rows (Hole n) tagged agrees = agrees
-replace_agrees name rows (Asked n) tagged agrees = tt
-replace_agrees name rows (Rows n old) tagged agrees = tagged
+replace_agrees name rows state tagged agrees = grind arith
 
 pub replace_owes : (way name : ℕ) (rows : List Row) (state : KeyState)
     → owed_for way name (replaced rows state) ≡ owed_for way name state
-replace_owes way name rows (Rows n old) = owed_none way name n rows ∙ sym (owed_none way name n old)
-replace_owes way name rows state = refl
+replace_owes way name rows state = grind arith
 
 pub update_owes : (way name bound : ℕ) (batch : List Delta) (state : KeyState) →
     owed_for way name (updated bound batch state) ≡ owed_for way name state
-update_owes way name bound batch (Rows n old) = owed_none way name n (rows_or (applied bound old batch) old)
-    ∙ sym (owed_none way name n old)
-update_owes way name bound batch state = refl
+update_owes way name bound batch state = grind arith
 
 behind : (id : ℕ) (old : List Row) (r : Result (List Row) ApplyFault)
     → rows_or (put_first (tag_of id) r) (tag_of id ∷ old) ≡ tag_of id ∷ rows_or r old
-behind id old (Ok rows) = refl
-behind id old (Err why) = refl
+behind id old r = grind arith
 
 pub update_agrees : (name bound : ℕ) (batch : List Delta) (state : KeyState) → 0 < bound → AreIdDeltas batch
     → Agrees name state →
     Agrees name (updated bound batch state)
 update_agrees name zero batch state room users agrees = absurd (omega arith)
-update_agrees name (suc bound) batch (Hole n) room users agrees = agrees
-update_agrees name (suc bound) batch (Asked n) room users agrees = tt
-update_agrees name (suc bound) batch (Rows n old) room users agrees =
-    let r : Result (List Row) ApplyFault = applied bound agrees.1 batch in (
-      agrees.0,
-      rows_or r agrees.1,
-      rw (agrees.2, applied_behind bound (tag_of name) agrees.1 batch users) (behind name agrees.1 r),
-    )
+update_agrees name (suc bound) batch state room users agrees =
+    let tagged = λ (old : List Row). applied_behind bound (tag_of name) old batch users in
+    let left = λ (old : List Row). behind name old (applied bound old batch) in grind arith
 
 -- WHAT A CALL MUST KEEP TO
 module _ (plan : Plan) (log : List Event) (legal : IsLegal plan log) (mid : PartialMap)
@@ -117,8 +96,7 @@ module _ (plan : Plan) (log : List Event) (legal : IsLegal plan log) (mid : Part
   where
     filled_undone : (number : ℕ) (state : KeyState) (set : IdSet) → id_set_of state ≡ Some set
         → fill_reply number state ≢ reply.Done
-    filled_undone number (Rows n old) set there done = absurd (cc (done))
-    filled_undone number state set there done = absurd (cc (there))
+    filled_undone number state set there done = grind arith
 
     pub fill_keeps : (number : ℕ) {answer : Reply} → answer ≡ reply_to mid (Fill way number rows) →
         KeepsTags mid (Fill way number rows) answer
@@ -209,10 +187,7 @@ module _ {w a w' : Caller} {c : Token} (c' : Token) {call : Call} {answer : Repl
     (same : (way : ℕ) → way ≢ call_key call → name_of c'.seen way ≡ name_of c.seen way) where
   pub went_agrees : Agrees (name_of c'.seen (call_key call)) (state_of (map_seen w') (call_key call)) → (way : ℕ)
       → Agrees (name_of c'.seen way) (state_of (map_seen w') way)
-  went_agrees here way = ⊎_elim
-      (λ (at : way ≡ call_key call). rw at here)
-      (λ (off : way ≢ call_key call). rw (same way off, went.others way off) (mid_agrees tied went way))
-      (cases_eq way (call_key call))
+  went_agrees here way = grind (arith, same way, went.others way, mid_agrees tied went way)
 
   pub went_else : (a' : Caller) → OwesElse (call_key call) (keeper_of w a c) (keeper_of w' a' c')
   went_else a' way off = rw (same way off, went.others way off) (mid_owes tied went way)

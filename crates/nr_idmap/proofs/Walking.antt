@@ -1,6 +1,5 @@
 -- What a hand holds that finds an id anew, or goes on from set to set.
-use Rattle.std.proofs.Common.{◌≡◌, ℕ, ◌<◌, ◌≤◌, ◌∙◌, ⊎_elim, inl, inr, refl, sym, subst, arith, false, Option, Some}
-use Rattle.std.proofs.Common.{None, List}
+use Rattle.std.proofs.Common.{◌≡◌, ℕ, ◌<◌, ◌≤◌, inl, inr, arith, false, Option, Some, List}
 use Rattle.nr_model.specs.declared.rows.Row.{Row}
 use Rattle.nr_model.specs.Rows.{IsRowSet}
 use Rattle.nr_board.specs.declared.answers.Found.{Found}
@@ -34,8 +33,7 @@ KeepsIn way old before new set told =
 
 pub kept_set : (way : ℕ) (old new : Handed) (before set : List Row) → KeepsIn way old before new set answer.Rows
     → set ≡ new.rows
-kept_set way old new before set (inl again) = again.1 ∙ sym again.0.rows
-kept_set way old new before set (inr anew) = anew.1.1
+kept_set way old new before set keeps = grind arith
 
 pub kept_reads : (way : ℕ) (old new : Handed) (before set : List Row) → KeepsIn way old before new set answer.Rows
     → (more : ℕ) × FindsAndReads more way old new
@@ -44,8 +42,7 @@ kept_reads way old new before set (inr anew) = (_, inr (anew.0, anew.1.0))
 
 -- one that goes on holds a set of the way, for no id
 pub held_id : (way : ℕ) (answer : Tagged) → id_held (held_kept way answer) ≡ id_kept answer
-held_id way tagged.Hole = refl
-held_id way answer = refl
+held_id way answer = grind arith
 
 -- whatever it read of the set that it found, and wherever that went
 abbrev pub Keeps : ℕ → Handed → Handed → Tagged → Type 0
@@ -67,21 +64,17 @@ kept_first tag key old new before cells count tagged.Hole finds = finds.0
 
 pub held_row_set : (hand : Handed) (sorted : List Row) (held : Option Holding) → IsIdHand hand sorted held → (key : ℕ)
     → hand.key ≡ Some key → IsRowSet 255 hand.rows
-held_row_set hand sorted None holds key is = absurd (let none = holds in cc)
-held_row_set hand sorted (Some held) holds key is = holds.row_set
+held_row_set hand sorted held holds key is = grind arith
 
 -- What it holds then is a row set of the key, since what it held was a row set, and what the key has is one.
 module _ (key : ℕ) (old new : Handed) (sorted : List Row) (near : key < new.reader.table.shape.keys)
     (few : old.reader.table.shape.rows ≤ 255)
     (had : (other : ℕ) → old.key ≡ Some other → IsRowSet 255 old.rows) where
   reads_key : (more : ℕ) → FindsAndReads more key old new → new.key ≡ Some key
-  reads_key more reads = ⊎_elim (λ again. again.key_is ∙ again.held) (λ anew. anew.1.4.key_is) reads
+  reads_key more reads = grind arith
 
   reads_row_set : (more : ℕ) → FindsAndReads more key old new → IsRowSet 255 new.rows
-  reads_row_set more reads = ⊎_elim
-      (λ again. subst (IsRowSet 255) (sym again.rows) (had key again.held))
-      (λ anew. let so = anew.1.4.row_set in (so.0, omega (arith, few, so.1)))
-      reads
+  reads_row_set more reads = grind (arith, had key)
 
   -- and where it is for an id it must have the id's tag
   pub reads_hold : (id more : ℕ) → FindsAndReads more key old new → (0 < id → HasTagged id new.rows sorted)

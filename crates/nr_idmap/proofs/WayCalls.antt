@@ -1,7 +1,6 @@
 -- What each call of the map's writer on the id's way does to the tie and to the ledger.
-use Rattle.std.proofs.Common.{◌≡◌, ◌≢◌, ℕ, zero, suc, ◌+◌, ◌<◌, inl, inr, true, false, List, [], ◌∷◌, refl, sym, ap}
-use Rattle.std.proofs.Common.{◌∙◌, subst, arith, eq-eqb, Result, Ok, Err, Option, Some, None}
-use Rattle.std.specs.Prelude.{if◌then◌else◌, nat_lt}
+use Rattle.std.proofs.Common.{◌≡◌, ◌≢◌, ℕ, ◌<◌, inr, List, [], ◌∷◌, refl, sym, ap, ◌∙◌, subst, arith, eq-eqb, Result}
+use Rattle.std.proofs.Common.{Ok, Err, Option, Some, None}
 use Rattle.std.proofs.lemmas.Bool.Decides.{nat_tests}
 use Rattle.nr_model.specs.declared.rows.Row.{Row}
 use Rattle.nr_model.specs.declared.batches.Delta.{Delta}
@@ -10,7 +9,7 @@ use Rattle.nr_model.specs.declared.calls.Call.TheVariants.{Fill, Update, Replace
 use Rattle.nr_model.specs.declared.calls.Reply.{Reply}
 use Rattle.nr_model.specs.declared.calls.Reply.TheVariants as reply
 use Rattle.nr_model.specs.declared.states.KeyState.{KeyState}
-use Rattle.nr_model.specs.declared.states.KeyState.TheVariants.{Hole, Asked, Rows}
+use Rattle.nr_model.specs.declared.states.KeyState.TheVariants.{Asked}
 use Rattle.nr_model.specs.Maps.{call_key, cancel_reply, cancelled, evict_reply, evicted, fill_reply, number_of}
 use Rattle.nr_model.specs.Maps.{state_after, state_of}
 use Rattle.nr_board.specs.declared.answers.Cancel.TheVariants as cancel
@@ -28,7 +27,7 @@ use Rattle.nr_ids.specs.Events.{Event, hinted, looked, name_of, touched, unnamed
 use Rattle.nr_ids.specs.Groups.{group_of_way}
 use Rattle.nr_ids.specs.Tokens.{Token}
 use Rattle.nr_ids.proofs.Calls.{clerk_names, grows_on}
-use Rattle.nr_ids.proofs.Logs.{cond_else, cond_same, one_way}
+use Rattle.nr_ids.proofs.Logs.{one_way}
 use Rattle.nr_idmap.specs.declared.upqueries.Unfilled.{Unfilled}
 use Rattle.nr_idmap.specs.declared.upqueries.Unfilled.TheVariants as unfilled
 use Rattle.nr_idmap.specs.IdWrites.{FillsId, WasClosed, WithdrawsOwed, WornOwed}
@@ -37,76 +36,54 @@ use Rattle.nr_idmap.specs.Tags.{AreIdDeltas, tag_of}
 use Rattle.nr_idmap.specs.Tidy.{KeepsTags}
 use Rattle.nr_idmap.proofs.Entries.{Rested, Went, stayed, went}
 use Rattle.nr_idmap.proofs.LedgerLaws.{owed_tells}
-use Rattle.nr_idmap.proofs.Stills.{IsStill, by_still}
+use Rattle.nr_idmap.proofs.Stills.{IsStill}
 use Rattle.nr_idmap.proofs.Ties.{Leaves, Tagged, fill_agrees, fill_done, fill_keeps, fill_leaves, fill_puts}
-use Rattle.nr_idmap.proofs.Ties.{found_leaves, found_names, mid_agrees, mid_owes, near_of, owed_asked}
-use Rattle.nr_idmap.proofs.Ties.{owed_none, replace_agrees, replace_keeps, replace_owes, rested_of, retied, stays_tied}
+use Rattle.nr_idmap.proofs.Ties.{found_leaves, found_names, mid_agrees, mid_owes, near_of, owed_asked, owed_none}
+use Rattle.nr_idmap.proofs.Ties.{replace_agrees, replace_keeps, replace_owes, rested_of, retied, stays_tied}
 use Rattle.nr_idmap.proofs.Ties.{update_agrees, update_owes, went_agrees, went_else, went_owes}
 
 -- ONE STATE
 pub still_asked : (n : ℕ) (now : KeyState) → IsStill (Asked n) now → now ≡ Asked n
-still_asked n now (inl same) = same
-still_asked n now (inr (number, was, asked)) = absurd (cc (was))
+still_asked n now still = grind arith
 
 still_number : {was now : KeyState} → IsStill was now → number_of now ≡ number_of was
-still_number {was} still =
-    by_still (λ state. number_of state ≡ number_of was) refl (λ number is. sym (ap number_of is)) still
+still_number still = grind arith
 
 -- a way with a name that is asked for now was so before
 was_asked : (name n : ℕ) (was now : KeyState) → 0 < name → Agrees name was → IsStill was now → now ≡ Asked n
     → was ≡ Asked n
-was_asked name n was now real agrees (inl same) asked = sym same ∙ asked
-was_asked name n was now real agrees (inr (number, hole, is)) asked =
-    absurd (let none : name ≡ 0 = subst (Agrees name) hole agrees in omega arith)
+was_asked name n was now real agrees still asked = grind arith
 
 evict_agrees : (state : KeyState) → Agrees 0 (evicted state)
-evict_agrees (Hole n) = refl
-evict_agrees (Asked n) = tt
-evict_agrees (Rows n rows) = refl
+evict_agrees state = grind arith
 
 evict_owed : (way name : ℕ) (state : KeyState) → reply.Evicted ≡ evict_reply state → owed_for way name state ≡ None
-evict_owed way name (Rows n rows) e = owed_none way name n rows
-evict_owed way name state e = absurd (cc (e))
+evict_owed way name state e = grind arith
 
 evict_leaves : (state : KeyState) → reply.Nothing ≡ evict_reply state → evicted state ≡ state
-evict_leaves (Rows n rows) e = absurd (cc (e))
-evict_leaves state e = refl
+evict_leaves state e = grind arith
 
 cancel_agrees : (state : KeyState) → reply.Cancelled ≡ cancel_reply state → Agrees 0 (cancelled state)
-cancel_agrees (Hole n) e = refl
-cancel_agrees (Asked n) e =
-    elim (nat_lt n 4194303) as (λ b. Agrees 0 (if b then Hole (n + 1) else Asked n)) [ true ↦ refl | false ↦ tt ]
-cancel_agrees (Rows n rows) e = absurd (cc (e))
+cancel_agrees state e = grind (arith, nat_tests)
 
 cancel_leaves : (state : KeyState) → cancel_reply state ≢ reply.Cancelled → cancelled state ≡ state
-cancel_leaves (Asked n) undone = grind (arith, nat_tests)
-cancel_leaves state undone = refl
+cancel_leaves state undone = grind (arith, nat_tests)
 
 -- a cancel that was done, or found the last number, met a request
 cancel_met : (state : KeyState) → cancel_reply state ≢ reply.Nothing → state ≡ Asked (number_of state)
-cancel_met (Hole n) met = absurd (met refl)
-cancel_met (Asked n) met = refl
-cancel_met (Rows n rows) met = absurd (met refl)
+cancel_met state met = grind arith
 
 -- one that met none found no upquery
 cancel_unowed : (way name : ℕ) (state : KeyState) → reply.Nothing ≡ cancel_reply state → owed_for way name state ≡ None
-cancel_unowed way zero (Hole n) e = refl
-cancel_unowed way (suc name) (Hole n) e = refl
-cancel_unowed way name (Asked n) e = grind (arith, nat_tests)
-cancel_unowed way name (Rows n rows) e = owed_none way name n rows
+cancel_unowed way name state e = grind (arith, nat_tests)
 
 -- what the search found shows that an upquery isn't open
 pub closed_by_name : {w a : Caller} {c : Token} (c' : Token) → IsTied (keeper_of w a c) → (owed : Owed) → 0 < owed.id
     → (found : Option ℕ) → FindsWay owed.id c c' found → found ≢ Some owed.way
     → owed_at (keeper_of w a c) owed.way ≢ Some owed
-closed_by_name {w} {c = c} c' tied owed real (Some way) finds other is =
+closed_by_name {w} {c = c} c' tied owed real found finds other is =
     let tells = owed_tells owed.way (name_of c.seen owed.way) (state_of (map_seen w) owed.way) owed is in
-    let here : name_of c.seen way ≡ owed.id
-    = sym (found_names owed.id c c' (Some way) tied.names.1 finds way) ∙ finds.1.has in
-    other (ap Some (one_way c.directory.plan c.seen way owed.way owed.id tied.legal real here (sym tells.1)))
-closed_by_name {w} {c = c} c' tied owed real None finds other is =
-    let tells = owed_tells owed.way (name_of c.seen owed.way) (state_of (map_seen w) owed.way) owed is in
-    finds.1 owed.way (found_names owed.id c c' None tied.names.1 finds owed.way ∙ sym tells.1)
+    grind (arith, found_names owed.id c c' found tied.names.1 finds, one_way c.directory.plan c.seen)
 
 -- what the clerk does there
 abbrev unnaming : ℕ → Token → ℕ → List Event
@@ -121,11 +98,10 @@ module _ {w a : Caller} {c mid new : Token} (tied : IsTied (keeper_of w a c)) (i
       ((found_leaves id c mid (Some way) finds).1.number ∙ tied.names.1) unnames.grows
 
   taken : name_of new.seen way ≡ 0
-  taken = taken_name way ∙ cond_same 0 (name_of mid.seen way) way way refl
+  taken = grind (arith, nat_tests, taken_name way)
 
   left : (k : ℕ) → k ≢ way → name_of new.seen k ≡ name_of c.seen k
-  left k other = taken_name k ∙ cond_else 0 (name_of mid.seen k) way k (λ e. other (sym e))
-      ∙ found_names id c mid (Some way) tied.names.1 finds k
+  left k other = grind (arith, nat_tests, taken_name k, found_names id c mid (Some way) tied.names.1 finds k)
 
 -- how a fill by its way's numbers tells of the map's refusal
 abbrev pub fault_told : Sent → FillFault → Unfilled

@@ -2,6 +2,7 @@
 use Rattle.std.proofs.Common.{◌≡◌, ◌≢◌, ℕ, zero, suc, ◌+◌, ◌/◌, ◌%◌, ◌<◌, ◌⊎◌, ⊎_elim, List, [], ◌∷◌, ◌++◌, ◌==◌, cond}
 use Rattle.std.proofs.Common.{refl, sym, ap, ◌∙◌, subst, arith, Option, Some, None, Ok, Err, get_or, set}
 use Rattle.std.proofs.Common.{get_or-set_other, get_or-set_same, inl, inr, eq-eqb, ne_eqb}
+use Rattle.std.proofs.lemmas.Bool.Decides.{nat_tests}
 use Rattle.std.specs.Prelude.{IfSome}
 use Rattle.std.specs.Int.{to_le_bytes, w64}
 use mathlib.Core.Logic.{dite}
@@ -10,8 +11,8 @@ use Rattle.nr_ids.specs.declared.admissions.Refused.{Refused}
 use Rattle.nr_ids.specs.declared.admissions.Refused.TheVariants as refused
 use Rattle.nr_ids.specs.declared.admissions.Room.{Room}
 use Rattle.nr_ids.specs.Groups.{IsWayOf, group_of_way, hint_of, way_at, way_in, ways}
-use Rattle.nr_ids.specs.Events.{Event, cleared, hinted, looked, named, own, touched, unnamed, hint_at, hint_in}
-use Rattle.nr_ids.specs.Events.{hints_of, looks, name_of, turn_of, IsOpen, KeepsHints, MayName}
+use Rattle.nr_ids.specs.Events.{Event, cleared, hinted, looked, named, touched, unnamed, hint_at, hint_in, hints_of}
+use Rattle.nr_ids.specs.Events.{looks, name_of, turn_of, IsOpen, KeepsHints, MayName}
 use Rattle.nr_ids.specs.Looking.{HasRoom, HintsNames, Missed, PassedByClerk, Rooms, Scans, SeesRoom, SetsHint}
 use Rattle.nr_ids.specs.Looking.{group_for, second_for, way_for}
 use Rattle.nr_ids.specs.Answers.{Admits}
@@ -29,14 +30,14 @@ IsClerk seat = Sits (token seat).directory seat × ((token seat).number ≡ 0) �
 
 pub clerk_so : {now : Opened} {new : Caller} → Sits now new → (token new).number ≡ 0 → HintsNames (token new)
     → IsClerk new
-clerk_so {new = new} sits clerk names = (subst (λ (d : Opened). Sits d new) (sym sits.own) sits, clerk, names)
+clerk_so sits clerk names = (rw sits.own sits, clerk, names)
 
 -- HINTS AND NAMES
 -- what the clerk knows of hints: those that it knew, after its own steps
 pub clerk_hints : {old new : Token} {acts : List Event} (group : ℕ) → old.number ≡ 0 → Grows acts old new
     → hints_of new.seen group ≡ hints_of (acts ++ old.seen) group
-clerk_hints {old = old} group clerk grows = rw (grows.seen, ← grows.acts_are, clerk)
-    (exact_hints old.directory.plan grows.rest old.seen group (rw grows.seen at grows.legal))
+clerk_hints {old = old} group clerk grows =
+    grind (arith, exact_hints old.directory.plan grows.rest old.seen group)
 
 pub looks_hints : (count by : ℕ) (seen : List Event) (group : ℕ)
     → hints_of (looks count by ++ seen) group ≡ hints_of seen group
@@ -49,22 +50,20 @@ of_names : (old new : Token) → new.directory ≡ old.directory → HintsNames 
     → ((hint_in new.seen way ≡ hint_in old.seen way) × (name_of new.seen way ≡ name_of old.seen way))
     ⊎ (hint_in new.seen way ≢ 0 → name_of new.seen way ≢ 0))
     → HintsNames new
-of_names old new directory were each way inside some =
-    ⊎_elim
-    (λ same. λ none. were way (subst (λ (d : Opened). way < ways d.plan) directory inside)
-    (λ zero_then. some (same.0 ∙ zero_then)) (sym same.1 ∙ none))
-    (λ other. other some)
-    (each way)
+of_names old new directory were each way inside some = grind (arith, each way, were way)
 
 pub still_of_names : {old new : Token} {acts : List Event} → old.number ≡ 0 → Grows acts old new
     → ((way : ℕ) → name_of (acts ++ old.seen) way ≡ name_of old.seen way)
     → ((group : ℕ) → hints_of (acts ++ old.seen) group ≡ hints_of old.seen group) → HintsNames old → HintsNames new
-still_of_names {old = old} {new = new} clerk grows names hints were =
-    of_names old new grows.directory were
-    (λ way. inl (
-      ap (λ (n : ℕ). hint_at n (way % 8)) (clerk_hints (group_of_way way) clerk grows ∙ hints (group_of_way way)),
-      clerk_names _ _ _ way clerk grows ∙ names way,
-    ))
+still_of_names {old = old} {new = new} {acts = acts} clerk grows names hints were way inside some =
+    grind (
+      arith,
+      clerk_hints (group_of_way way) clerk grows,
+      hints (group_of_way way),
+      clerk_names old acts new way clerk grows,
+      names way,
+      were way,
+    )
 
 pub looks_of_names : {old new : Token} (count : ℕ) → old.number ≡ 0 → Grows (looks count old.number) old new
     → HintsNames old → HintsNames new
@@ -98,9 +97,13 @@ pub none_free : (group : ℕ) (old new : Token) → old.number ≡ 0 → Grows (
     → HintsNames old → group < old.directory.plan.groups
     → ((place : ℕ) → place < 8 → hint_at (hints_of new.seen group) place ≢ 0) → PassedByClerk (way_in group) 0 old 8 new
 none_free group old new clerk grows were low some _ place near none =
-    looks_of_names 1 clerk grows were (way_in group place)
-    (subst (λ (d : Opened). way_in group place < ways d.plan) (sym grows.directory) (omega (arith, low, near)))
-    (λ zero_then. some place near (sym (hint_there new.seen group place near) ∙ zero_then)) none
+    grind (
+      arith,
+      looks_of_names 1 clerk grows were (way_in group place),
+      hint_there new.seen group place near,
+      some place near,
+      grows.directory,
+    )
 
 module _ (id first second : ℕ) (old mid new : Token) (clerk : old.number ≡ 0) (first_is : first ≡ group_for old id)
     (second_is : second ≡ second_for old id)
@@ -149,23 +152,16 @@ module _ (way hint word : ℕ) (old mid : Token) (clerk : old.number ≡ 0) (loo
       ∙ get_or-set_other (to_le_bytes w64 (hints_of mid.seen (group_of_way way))) (way % 8) place hint 0 ne
 
   own_place : hint_at word (way % 8) ≡ hint
-  own_place =
-      ap (λ (l : List ℕ). get_or l (way % 8) 0) is
-      ∙ get_or-set_same (to_le_bytes w64 (hints_of mid.seen (group_of_way way))) (way % 8) hint 0 (omega arith)
+  own_place = grind (arith, get_or-set_same)
 
   pub keeps_others : name_of old.seen way ≡ 0 → KeepsHints mid.seen (group_of_way way) word
-  keeps_others free place low some = dite (ℕ_discrete place (way % 8))
-      (λ (e : place ≡ way % 8).
-      let there : way_in (way / 8) place ≡ way = omega (arith, e) in
-      absurd (some
-      (ap (name_of mid.seen) there ∙ clerk_looks old 1 old.number mid way clerk look ∙ free)))
-      (λ ne. other_place place ne)
+  keeps_others free place low some =
+      let there : place ≡ way % 8 → way_in (way / 8) place ≡ way = λ e. omega arith in
+      grind (arith, other_place place, clerk_looks old 1 old.number mid way clerk look)
 
   module _ (new : Token) (write : Grows (touched mid.number (hinted (group_of_way way) word) ∷ []) mid new) where
     after : (group : ℕ) → hints_of new.seen group ≡ cond (group_of_way way == group) word (hints_of old.seen group)
-    after group =
-        clerk_hints group (look.number ∙ clerk) write
-        ∙ ap (cond (group_of_way way == group) word) (clerk_hints group clerk look)
+    after group = rw (clerk_hints group (look.number ∙ clerk) write, clerk_hints group clerk look)
 
     pub sets_hint : SetsHint way hint old new
     sets_hint = record {
@@ -173,14 +169,11 @@ module _ (way hint word : ℕ) (old mid : Token) (clerk : old.number ≡ 0) (loo
       grows =
           grows_next (λ by. touched by (hinted (group_of_way way) word) ∷ []) old mid new (looked old.number ∷ []) look
           write;
-      set =
-          ap (λ (n : ℕ). hint_at n (way % 8))
-          (after (group_of_way way) ∙ cond_same word (hints_of old.seen (way / 8)) (way / 8) (way / 8) refl)
-          ∙ own_place;
+      set = grind (arith, nat_tests, after (group_of_way way), own_place);
       others = λ other apart. rw (after (group_of_way other)) (dite (ℕ_discrete (way / 8) (other / 8))
           (λ (e : way / 8 ≡ other / 8). rw (eq-eqb (way / 8) (other / 8) e)
           (other_place (other % 8) (λ same. apart (omega (arith, e, same)))
-          ∙ ap (λ (n : ℕ). hint_at n (other % 8)) (clerk_hints (way / 8) clerk look ∙ ap (hints_of old.seen) e)))
+          ∙ rw (clerk_hints (way / 8) clerk look, e)))
           (λ ne. rw (ne_eqb (way / 8) (other / 8) ne)));
     }
 
@@ -198,14 +191,7 @@ pub hints_way : {id way hint : ℕ} {old first second third fourth : Token} → 
     → Grows (looks 1 old.number) old first → Missed id first second → HasRoom id way second third
     → hint ≡ hint_of first.directory.plan id → SetsHint way hint third fourth
     → Hinting id way old first second third fourth
-hints_way {way = way} {third = third} {fourth = fourth} real clerk turn missed room is hint = record {
-  real = real;
-  clerk = clerk;
-  turn = turn;
-  missed = missed;
-  room = room;
-  hint = subst (λ (h : ℕ). SetsHint way h third fourth) is hint;
-}
+hints_way real clerk turn missed room is sets = let hint = rw is at sets in search
 
 -- and then a name and a clearing
 module _ {id way : ℕ} {old first second third fourth : Token} (it : Hinting id way old first second third fourth) where
@@ -240,15 +226,13 @@ module _ {id way : ℕ} {old first second third fourth : Token} (it : Hinting id
 
     pub may_admit : MayName first.directory.plan fourth.seen way id
     may_admit = record {
-      inside = subst (λ (d : Opened). way < ways d.plan) scan.1.directory it.room.inside;
+      inside = rw scan.1.directory at it.room.inside;
       real = it.real;
-      place = subst (λ (d : Opened). IsWayOf d.plan id way) scan.1.directory it.room.place;
+      place = rw scan.1.directory at it.room.place;
       hint = it.hint.set;
       free = same_from_third way ∙ it.room.free;
-      open_claim = ap (λ (k : ℕ). k % 2)
-          (clerk_turn first _ fourth (group_for first id) first_clerk all
-          (tt, (tt, looks_clear_nothing (scan.0 + 2) first.number)) open_claim)
-          ∙ open_claim;
+      open_claim = rw (clerk_turn first _ fourth (group_for first id) first_clerk all
+          (tt, (tt, looks_clear_nothing (scan.0 + 2) first.number)) open_claim) open_claim;
       absent = λ other has. it.missed.exact first_clerk other
           (clerk_looks first scan.0 first.number second other first_clerk scan.1 ∙ sym (same_names other) ∙ has);
     }

@@ -1,8 +1,6 @@
 -- The bytes of a word of hints, and the places that are picked out of them.
-use Rattle.std.proofs.Common.{◌+◌, ◌*◌, ◌≡◌, ℕ, zero, suc, ◌-◌, ◌/◌, ◌%◌, ◌^◌, ◌<◌, ◌≤◌, ◌==◌, cond, Bool, false, map}
-use Rattle.std.proofs.Common.{sym, ap, ◌∙◌, arith, bit_and}
-use mathlib.Core.Logic.{dite}
-use native.Mathlib.Decide.{dec_le}
+use Rattle.std.proofs.Common.{◌+◌, ◌*◌, ◌≡◌, ℕ, zero, suc, ◌-◌, ◌/◌, ◌%◌, ◌^◌, ◌<◌, ◌==◌, cond, Bool, false, map, sym}
+use Rattle.std.proofs.Common.{ap, ◌∙◌, arith, bit_and}
 use lib.Lanes.{mask_l}
 use Rattle.std.proofs.lemmas.Bool.Decides.{nat_tests}
 use Rattle.std.specs.Int.{bit_at, leading_zeros, to_le_bytes, w64}
@@ -14,7 +12,6 @@ use Rattle.std.proofs.lemmas.Simd.{bit_mask_l}
 use Rattle.std.proofs.lemmas.Nat.Bits.{bit_at-suc, bit_at_above, bit_at_and, bit_at_lowest}
 use Rattle.nr_ids.specs.Events.{hint_at}
 use Rattle.nr_ids.specs.Looking.{IsFirst}
-use Rattle.nr_ids.proofs.Logs.{cond_else}
 
 abbrev pub matches : ℕ → ℕ → ℕ
 matches hints hint = mask_l (map (λ (x : ℕ). x == hint) (to_le_bytes w64 hints))
@@ -33,9 +30,7 @@ is_fitting hints hint place low e = grind (arith, nat_tests, bit_here hints hint
 
 -- the first of some places is one of eight
 pub first_inside : (bits place : ℕ) → bits < 2 ^ 8 → bit_at bits place ≡ 1 → place < 8
-first_inside bits place few on = dite (dec_le 8 place)
-    (λ (far : 8 ≤ place). absurd (cc (sym on ∙ bit_at_above bits 8 place few far)))
-    (λ near. omega (arith, near))
+first_inside bits place few on = grind (arith, bit_at_above bits 8 place few)
 
 -- without the lowest bit the others stay
 pub lowest_cleared : (first bits place : ℕ) → 0 < bits → IsFirst bits first
@@ -45,13 +40,10 @@ lowest_cleared zero bits zero some is =
     let even : bit_at (bits - 1) 0 ≡ 0 = bit_at_lowest (bits - 1) ∙ omega (arith, odd, some) in
     bit_at_and bits (bits - 1) 0 ∙ omega (arith, even)
 lowest_cleared zero bits (suc place) some is =
-    let odd : bits % 2 ≡ 1 = sym (bit_at_lowest bits) ∙ is.0 in
-    let half : (bits - 1) / 2 ≡ bits / 2 = omega (arith, odd, some) in
+    let half : (bits - 1) / 2 ≡ bits / 2 = grind (arith, bit_at_lowest bits) in
     grind (arith, nat_tests, bit_at-suc, bit_at_and)
 lowest_cleared (suc first) bits zero some is =
-    let none : bit_at bits 0 ≡ 0 = is.1 0 (omega arith) in
-    bit_at_and bits (bits - 1) 0 ∙ omega (arith, none) ∙ sym none
-    ∙ sym (cond_else 0 (bit_at bits 0) 0 (suc first) (λ e. absurd (omega (arith, e))))
+    let none : bit_at bits 0 ≡ 0 = is.1 0 (omega arith) in grind (arith, nat_tests, bit_at_and bits (bits - 1) 0)
 lowest_cleared (suc first) bits (suc place) some is =
     let none : bits % 2 ≡ 0 = sym (bit_at_lowest bits) ∙ is.1 0 (omega arith) in
     let half : (bits - 1) / 2 ≡ bits / 2 - 1 = omega (arith, none, some) in

@@ -4,16 +4,16 @@ use Rattle.std.proofs.Common.{[], ◌∷◌, ◌++◌, refl, sym, ap, ◌∙◌,
 use Rattle.std.proofs.Common.{false}
 use mathlib.Core.Logic.{dite}
 use native.Mathlib.Decide.{dec_le, ℕ_discrete}
+use Rattle.std.proofs.lemmas.Bool.Decides.{nat_tests}
 use Rattle.nr_ids.specs.declared.plan.Plan.{Plan}
 use Rattle.nr_ids.specs.Groups.{IsWayOf, group_of, group_of_way, places, second_of, way_at, way_in}
-use Rattle.nr_ids.specs.Events.{Event, looked, own, looks, name_of, turn_of, mark_bit, IsLegal}
-use Rattle.nr_ids.specs.Events.{IsAbsent, IsOpen, IsClosed}
+use Rattle.nr_ids.specs.Events.{Event, looked, own, looks, name_of, turn_of, mark_bit, May, IsLegal, IsAbsent, IsOpen}
+use Rattle.nr_ids.specs.Events.{IsClosed}
 use Rattle.nr_ids.specs.Looking.{WasAbsent, LackedName, PassedByClerk, group_for, way_for}
 use Rattle.nr_ids.specs.Answers.{WasOpen}
 use Rattle.nr_ids.specs.Marks.{ChoosesWay, LoadsMarks, TakesMark, TurnsMarks}
 use Rattle.nr_ids.specs.Tokens.{Opened, Token, Grows, Newest, Within}
-use Rattle.nr_ids.proofs.Logs.{ClearsNothing, exact_names, looks_names, named_inside, name_step, new_name, no_name}
-use Rattle.nr_ids.proofs.Logs.{own_append, quiet_turn, same_name, was_odd}
+use Rattle.nr_ids.proofs.Logs.{ClearsNothing, exact_names, looks_names, named_inside, own_append, quiet_turn, was_odd}
 
 pub grows_none : (old : Token) → IsLegal old.directory.plan old.seen → Grows [] old old
 grows_none old legal =
@@ -31,9 +31,7 @@ grows_none old legal =
 
 newest_on : (first last old mid new : List Event) → Newest first old mid → Newest last mid new
     → Newest (last ++ first) old new
-newest_on [] [] old mid new a b = b ∙ a
-newest_on (act ∷ acts) [] old mid new a b = (a.0, b ∙ a.1)
-newest_on first (act ∷ acts) old mid new a b = b
+newest_on first last old mid new a b = grind arith
 
 pub grows_on : (old mid new : Token) (first last : List Event) → Grows first old mid → Grows last mid new
     → Grows (last ++ first) old new
@@ -42,9 +40,8 @@ grows_on old mid new first last a b = record {
   number = b.number ∙ a.number;
   made = b.made ∙ a.made;
   rest = b.rest ++ a.rest;
-  seen = b.seen ∙ ap (λ (l : List Event). b.rest ++ l) a.seen ∙ sym (append_assoc b.rest a.rest old.seen);
-  acts_are = own_append old.number b.rest a.rest ∙ ap (λ (l : List Event). own old.number b.rest ++ l) a.acts_are
-      ∙ ap (λ (k : ℕ). own k b.rest ++ first) (sym a.number) ∙ ap (λ (l : List Event). l ++ first) b.acts_are;
+  seen = rw (b.seen, a.seen, append_assoc);
+  acts_are = rw (own_append, a.acts_are, ← a.number, b.acts_are);
   newest = newest_on first last old.seen mid.seen new.seen a.newest b.newest;
   legal = subst (λ (d : Opened). IsLegal d.plan new.seen) a.directory b.legal;
   steps = omega (arith, a.steps, b.steps, length-append last first);
@@ -62,19 +59,20 @@ up_to P count below here at near = dite (ℕ_discrete at count)
     (λ (e : at ≡ count). subst P (sym e) here)
     (λ ne. below at (omega (arith, near, ne)))
 
-cons_not_nil : (a : List Event) (x : Event) (b : List Event) → a ++ x ∷ b ≢ []
-cons_not_nil [] x b e = absurd (cc (e))
-cons_not_nil (y ∷ a) x b e = absurd (cc (e))
+ends_none : (a b : List Event) → a ++ b ≡ [] → (a ≡ []) × (b ≡ [])
+ends_none [] b e = (refl, e)
+ends_none (x ∷ a) b e = absurd (cc (e))
 
 -- a moment after a step of the call's
 pub within_between : {old mid new : Token} {act : Event} {acts moment : List Event} (since later : List Event)
     → Grows (act ∷ acts) old mid → moment ≡ since ++ mid.seen → new.seen ≡ later ++ moment → Within old new moment
 within_between {old = old} {act = act} {acts = acts} since later grows from until = record {
   since = since ++ grows.rest;
-  from = from ∙ ap (λ (l : List Event). since ++ l) grows.seen ∙ sym (append_assoc since grows.rest old.seen);
-  begun = λ none. cons_not_nil (own old.number since) act acts
-      (ap (λ (l : List Event). own old.number since ++ l) (sym grows.acts_are)
-      ∙ sym (own_append old.number since grows.rest) ∙ none);
+  from = rw (from, grows.seen, append_assoc);
+  begun = λ none. absurd (cc (
+    grows.acts_are,
+    (ends_none (own old.number since) (own old.number grows.rest) (rw own_append at none)).1,
+  ));
   later = later;
   until = until;
 }
@@ -109,9 +107,11 @@ module _ (plan : Plan) (id : ℕ) (real : 0 < id) where
 
   pub none_has : (log : List Event) → IsLegal plan log → ((i : ℕ) → i < places → name_of log (way_at plan id i) ≢ id)
       → IsAbsent log id
-  none_has log legal none way has =
-      let at : IsWayOf plan id way = (named_inside plan log way id legal real has).1 in
-      none at.0 at.1 (ap (name_of log) at.2 ∙ has)
+  none_has log legal none way has = grind (arith, named_inside plan log way id legal real has)
+
+  absent_before : (event : Event) (log : List Event) (way : ℕ) → May plan log event → name_of log way ≢ id
+      → name_of (event ∷ log) way ≡ id → IsAbsent log id
+  absent_before event log way may other has = grind (arith, nat_tests)
 
   -- where a way that hadn't the name got it, there was a moment at which no way had it
   named_since : (rest log : List Event) (way : ℕ) → IsLegal plan (rest ++ log) → name_of log way ≢ id
@@ -129,29 +129,16 @@ module _ (plan : Plan) (id : ℕ) (real : 0 < id) where
         rest,
         refl,
         refl,
-        elim (name_step plan event (rest ++ log) way legal.0) [
-          | same_name is ↦ absurd (ne (sym is ∙ has))
-          | new_name i event_is may is ↦ subst (IsAbsent (rest ++ log)) (sym is ∙ has) may.absent
-          | no_name event_is is ↦ absurd (omega (arith, is, has, real))
-        ],
+        absent_before event (rest ++ log) way legal.0 ne has,
       ))
-
-ends_none : (a b : List Event) → a ++ b ≡ [] → (a ≡ []) × (b ≡ [])
-ends_none [] b e = (refl, e)
-ends_none (x ∷ a) b e = absurd (cc (e))
 
 -- a moment of a call's later steps is one of the call
 pub within_since : {old mid new : Token} {acts moment : List Event} → Grows acts old mid → Within mid new moment
     → Within old new moment
 within_since {old = old} {mid = mid} grows within = record {
   since = within.since ++ grows.rest;
-  from =
-      within.from ∙ ap (λ (l : List Event). within.since ++ l) grows.seen
-      ∙ sym (append_assoc within.since grows.rest old.seen);
-  begun = λ none. within.begun
-      (ends_none (own mid.number within.since) (own mid.number grows.rest)
-      (sym (own_append mid.number within.since grows.rest)
-      ∙ ap (λ (by : ℕ). own by (within.since ++ grows.rest)) grows.number ∙ none)).0;
+  from = rw (within.from, grows.seen, append_assoc);
+  begun = λ none. within.begun (rw grows.number (ends_none _ _ (rw own_append at none)).0);
   later = within.later;
   until = within.until;
 }
@@ -172,11 +159,8 @@ absent_within id real old new legal last lacked = let plan = old.directory.plan 
       moment = gap.0;
       within = record {
         since = gap.2 ++ within.since;
-        from =
-            gap.4 ∙ ap (λ (l : List Event). gap.2 ++ l) within.from ∙ sym (append_assoc gap.2 within.since old.seen);
-        begun = λ none. within.begun
-            (ends_none (own old.number gap.2) (own old.number within.since)
-            (sym (own_append old.number gap.2 within.since) ∙ none)).1;
+        from = simp (gap.4, within.from, append_assoc);
+        begun = λ none. within.begun (ends_none _ _ (rw own_append at none)).1;
         later = gap.1;
         until = within.until ∙ gap.3;
       };
@@ -188,8 +172,7 @@ absent_within id real old new legal last lacked = let plan = old.directory.plan 
 -- what the clerk knows of names: those that it knew, after its own steps
 pub clerk_names : (old : Token) (acts : List Event) (new : Token) (way : ℕ) → old.number ≡ 0 → Grows acts old new
     → name_of new.seen way ≡ name_of (acts ++ old.seen) way
-clerk_names old acts new way clerk grows =
-    rw (grows.seen, ← grows.acts_are, clerk) (exact_names grows.rest old.seen way)
+clerk_names old acts new way clerk grows = grind (arith, exact_names grows.rest old.seen way)
 
 pub clerk_looks : (old : Token) (count by : ℕ) (new : Token) (way : ℕ) → old.number ≡ 0 → Grows (looks count by) old new
     → name_of new.seen way ≡ name_of old.seen way
@@ -223,7 +206,7 @@ lacked_later rest is name = let within = name.within in record {
     from = within.from;
     begun = within.begun;
     later = rest ++ within.later;
-    until = is ∙ ap (λ (l : List Event). rest ++ l) within.until ∙ sym (append_assoc rest within.later name.moment);
+    until = rw (is, within.until, append_assoc);
   };
   other = name.other;
 }
@@ -242,17 +225,10 @@ module _ (plan : Plan) (id : ℕ) where
 
   -- a way of one of the groups is at a place
   pub at_first : (way : ℕ) → group_of_way way ≡ group_of plan id → IsWayOf plan id way
-  at_first way is =
-      let place : ℕ = way % 8 in
-      let low : place < 8 = omega arith in
-      (place, omega arith, way_at_first place low ∙ omega arith)
+  at_first way is = (way % 8, omega arith, grind (arith, way_at_first (way % 8)))
 
   pub at_second : (way : ℕ) → group_of_way way ≡ second_of plan id → IsWayOf plan id way
-  at_second way is =
-      let place : ℕ = 8 + way % 8 in
-      let high : 8 ≤ place = omega arith in
-      let low : place < places = omega arith in
-      (place, low, way_at_second place high low ∙ omega arith)
+  at_second way is = (8 + way % 8, omega arith, grind (arith, way_at_second (8 + way % 8)))
 
 -- what holds of the ways of both groups holds at each of the id's places
 pub each_place : (id first second : ℕ) (old : Token) (P : ℕ → Type 0) → first ≡ group_for old id

@@ -3,13 +3,8 @@ mod Hinted
 mod Bytes
 pub mod MarkBits
 mod Steps
-mod Scanning
 mod Seats
 pub mod Calls
 pub mod Through
 pub mod Admitting
 mod LawProofs
-mod Apart
-mod Ahead
-mod Choices
-mod Uses

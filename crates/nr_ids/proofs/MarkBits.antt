@@ -1,6 +1,6 @@
 -- Use bits: what an or and an exclusive or make of them, and that a set one stays until the clerk turns it over.
-use Rattle.std.proofs.Common.{◌≡◌, ◌≢◌, ℕ, zero, suc, ◌+◌, ◌*◌, ◌%◌, ◌^◌, ◌<◌, ◌≤◌, ◌⊎◌, zero-mul, List, [], ◌∷◌}
-use Rattle.std.proofs.Common.{◌++◌, sym, ap, ◌∙◌, subst, arith, bit_and, bit_or, bit_xor, Bool, cond, ◌==◌}
+use Rattle.std.proofs.Common.{◌≡◌, ◌≢◌, ℕ, zero, suc, ◌+◌, ◌*◌, ◌%◌, ◌^◌, ◌<◌, ◌≤◌, ◌⊎◌, zero-mul, List, [], ◌∷◌, ◌++◌}
+use Rattle.std.proofs.Common.{arith, bit_and, bit_or, bit_xor}
 use Rattle.std.specs.Int.{bit_at}
 use Rattle.std.proofs.lemmas.Nat.Bits.{and_pow, bit_at-lt, bit_at-pow_other, bit_at-pow_same, bit_at-zero}
 use Rattle.std.proofs.lemmas.Nat.Bits.{bit_at_cat_low, bit_at_or}
@@ -9,10 +9,8 @@ use Rattle.std.proofs.Math.Nat.{mod-eq_of_lt}
 use Rattle.std.proofs.lemmas.Bool.Decides.{nat_tests}
 use Rattle.nr_ids.specs.declared.plan.Plan.{Plan}
 use Rattle.nr_ids.specs.Groups.{group_of_way}
-use Rattle.nr_ids.specs.Events.{Event, Touch, touched, marked, turned, maker, own, mark_bit, marks_after, marks_of}
-use Rattle.nr_ids.specs.Events.{AreMarked, HasMark, IsLegal, IsMarked, May, MayTouch}
+use Rattle.nr_ids.specs.Events.{Event, own, mark_bit, marks_of, AreMarked, HasMark, IsLegal, IsMarked}
 use Rattle.nr_ids.specs.Marks.{ChoosesPlace, begin_of, bits_from, place_after}
-use Rattle.nr_ids.proofs.Logs.{own_none}
 
 -- a way by its group and its bit
 pub same_way : (way other : ℕ) → group_of_way way ≡ group_of_way other → mark_bit way ≡ mark_bit other → way ≡ other
@@ -21,8 +19,7 @@ same_way way other group bit =
 
 -- a place's bit as the code makes it
 pub shifted : (place : ℕ) → place < 8 → 1 * 2 ^ place % 2 ^ 64 ≡ 2 ^ place
-shifted place low = let few = pow_below place 64 (omega (arith, low)) in
-    ap (λ (n : ℕ). n % 2 ^ 64) (omega arith) ∙ mod-eq_of_lt few
+shifted place low = grind (arith, pow_below place 64 (omega arith), mod-eq_of_lt)
 
 pub shifted_bit : (way : ℕ) → 1 * 2 ^ (way % 8) % 2 ^ 64 ≡ mark_bit way
 shifted_bit way = shifted (way % 8) (omega arith)
@@ -39,53 +36,43 @@ pub bit_unset : (marks place : ℕ) → place < 8 → bit_and marks (1 * 2 ^ pla
 bit_unset marks place low none =
     grind (arith, shifted place low, and_pow marks place, bit_at-lt marks place, pow_pos place)
 
--- a set bit stays set by an or
-pub or_keeps : (b : Bool) (marks bits place : ℕ) → HasMark marks place
-    → HasMark (cond b (bit_or marks bits) marks) place
-or_keeps b marks bits place set = grind (arith, nat_tests, bit_at_or, bit_at-lt)
-
+-- a set bit stays so but for the clerk
 pub quiet_mark : (plan : Plan) (rest log : List Event) (group place : ℕ) → own 0 rest ≡ [] → IsLegal plan (rest ++ log)
     → HasMark (marks_of log group) place → HasMark (marks_of (rest ++ log) group) place
 quiet_mark plan [] log group place quiet legal set = set
 quiet_mark plan (event ∷ rest) log group place quiet legal set =
-    let apart = own_none 0 event rest quiet in
-    on event apart.0 legal.0 (quiet_mark plan rest log group place apart.1 legal.1 set)
-  where
-    by_touch : (by : ℕ) (touch : Touch) → by ≢ 0 → MayTouch plan (rest ++ log) by touch
-        → HasMark (marks_of (rest ++ log) group) place
-        → HasMark (marks_after touch group (marks_of (rest ++ log) group)) place
-    by_touch by (marked way) other may here =
-        or_keeps (group_of_way way == group) (marks_of (rest ++ log) group) (mark_bit way) place here
-    by_touch by (turned of bits) other may here = absurd (other may.0)
-    by_touch by touch other may here = here
-
-    on : (e : Event) → maker e ≢ 0 → May plan (rest ++ log) e → HasMark (marks_of (rest ++ log) group) place
-        → HasMark (marks_of (e ∷ rest ++ log) group) place
-    on (touched by touch) other may here = by_touch by touch other may here
-    on e other may here = here
+    let was = quiet_mark plan rest log group place in grind (arith, nat_tests, bit_at_or, bit_at-lt)
 
 -- the bits that a choice turns over among the use bits are those of the places that it passed
 pub bits_from_only : (begin count place : ℕ) → bit_at (bits_from begin count) place ≡ 1
     → (step : ℕ) × (step < count) × (place ≡ place_after begin step)
-bits_from_only begin zero place on = absurd (cc (sym on ∙ bit_at-zero place))
+bits_from_only begin zero place on = grind (arith, bit_at-zero)
 bits_from_only begin (suc count) place on =
     grind (arith, bits_from_only begin count place, bit_at-pow_other, bit_at_or, bit_at-lt)
 
 pub moved_low : (n place : ℕ) → place < 8 → bit_at (256 * n) place ≡ 0
-moved_low n place low =
-    ap (λ (k : ℕ). bit_at k place) (omega arith) ∙ bit_at_cat_low n 8 0 place low ∙ bit_at-zero place
+moved_low n place low = grind (arith, bit_at_cat_low n 8 0 place low, bit_at-zero place)
 
 pub turned_bits : (marks place bits : ℕ) (chooses : ChoosesPlace marks place bits) (at : ℕ) → at < 8
     → bit_at bits at ≡ bit_at (bits_from (begin_of marks) chooses.passed) at
-turned_bits marks place bits chooses at low = rw chooses.bits_are
-    (grind (arith, bit_at_or, moved_low (bit_xor (begin_of marks) (place_after place 1)) at low, bit_at-lt))
+turned_bits marks place bits chooses at low =
+    grind (
+      arith,
+      bit_at_or,
+      moved_low (bit_xor (begin_of marks) (place_after place 1)) at low,
+      bit_at-lt,
+      chooses.bits_are,
+    )
 
 pub turned_are_marked : (marks place bits : ℕ) → ChoosesPlace marks place bits → (at : ℕ) → at < 8
     → bit_at bits at ≡ 1 → HasMark marks at
 turned_are_marked marks place bits chooses at low on =
-    let t = bits_from_only (begin_of marks) chooses.passed at
-    (sym (turned_bits marks place bits chooses at low) ∙ on) in
-    subst (HasMark marks) (sym t.2) (chooses.marked t.0 t.1)
+    grind (
+      arith,
+      bits_from_only (begin_of marks) chooses.passed at,
+      turned_bits marks place bits chooses at,
+      chooses.marked,
+    )
 
 -- one way's bit
 pub bit_is_marked : (log : List Event) (way bit : ℕ) → bit ≡ mark_bit way → IsMarked log way
@@ -97,8 +84,7 @@ pub bits_on : (marks passed step : ℕ) → passed ≡ bits_from (begin_of marks
     → bit_or passed (1 * 2 ^ place_after (begin_of marks) step % 2 ^ 64) ≡ bits_from (begin_of marks) (step + 1)
 bits_on marks passed step is =
     let more : suc step ≡ step + 1 = omega arith in
-    ap (bit_or passed) (shifted (place_after (begin_of marks) step) (omega arith))
-    ∙ ap (λ (n : ℕ). bit_or n (2 ^ place_after (begin_of marks) step)) is ∙ ap (bits_from (begin_of marks)) more
+    rw (shifted (place_after (begin_of marks) step) (omega arith), is, ← more)
 
 pub chosen_so : (marks place passed moved count : ℕ) → count ≤ 8 → place ≡ place_after (begin_of marks) count
     → ((step : ℕ) → step < count → HasMark marks (place_after (begin_of marks) step))
@@ -110,6 +96,5 @@ chosen_so marks place passed moved count few place_is were ends passed_is moved_
   place_is = place_is;
   marked = were;
   ends = ends;
-  bits_are = ap (bit_or passed) moved_is
-      ∙ ap (λ (n : ℕ). bit_or n (256 * bit_xor (begin_of marks) (place_after place 1))) passed_is;
+  bits_are = rw (moved_is, passed_is);
 }

@@ -1,7 +1,7 @@
 -- Each step of a seat on the table may be made, and what it tells is what the seat's token gains.
-use Rattle.std.proofs.Common.{◌≡◌, ℕ, zero, suc, ◌+◌, ◌/◌, ◌%◌, ◌<◌, ◌==◌, cond, List, [], ◌∷◌, ◌++◌, length, get_or}
-use Rattle.std.proofs.Common.{set, refl, sym, ap, ◌∙◌, subst, arith, bit_or, bit_xor}
-use mathlib.Core.Option.{some, none, some-injective, some-ne-none}
+use Rattle.std.proofs.Common.{◌≡◌, ℕ, ◌+◌, ◌/◌, ◌%◌, ◌<◌, ◌==◌, cond, List, [], ◌∷◌, ◌++◌, get_or, set, refl, sym, ap}
+use Rattle.std.proofs.Common.{◌∙◌, subst, arith, bit_or, bit_xor}
+use mathlib.Core.Option.{some, none}
 use lib.ListN.{get_elem?}
 use lib.Seq.{set-get_or}
 use prog.Atomic.{either}
@@ -22,9 +22,8 @@ use Rattle.nr_ids.specs.Plays.{has_loaded, has_marked, has_named, has_unnamed, h
 use Rattle.nr_ids.specs.Plays.{Then}
 use Rattle.nr_ids.specs.Scans.{Scanned}
 use Rattle.nr_ids.specs.Tokens.{Opened, Sits, Grows, WinsClaim, token}
-use Rattle.nr_ids.proofs.Logs.{own_this, quiet_names, quiet_turn}
+use Rattle.nr_ids.proofs.Logs.{own_this, quiet_names, quiet_turn, scan_shows}
 use Rattle.nr_ids.proofs.MarkBits.{quiet_mark, same_way}
-use Rattle.nr_ids.proofs.Scanning.{scan_shows}
 use Rattle.nr_ids.proofs.Hinted.{quiet_hints}
 use Rattle.nr_ids.proofs.Steps.{SameHints, SameMarks, SameNames, SameTurns, moves, shows_hints, shows_marks, shows_name}
 use Rattle.nr_ids.proofs.Steps.{shows_same, shows_turn}
@@ -41,12 +40,7 @@ pub record Stands (table : TableId) (key : Plan) (now : Opened) : Type 0 where
 
 pub stands : {table : TableId} {key plan : Plan} {now : Opened} → record { id = table; plan = plan } ≡ now
     → (key ≡ plan) × (table.words ≡ total plan) × IsPlan plan → Stands table key now
-stands {plan = plan} {now = now} is about = let plan_is : plan ≡ now.plan = ap (λ (d : Opened). d.plan) is in record {
-  id = ap (λ (d : Opened). d.id) is;
-  key_is = about.0 ∙ plan_is;
-  wide = about.1 ∙ ap total plan_is;
-  sizes = subst IsPlan plan_is about.2;
-}
+stands is about = rw (← is) search
 
 module _ {table : TableId} {key : Plan} {now : Opened} (about : Stands table key now) {seat : Caller}
     (sits : Sits now seat) where
@@ -130,7 +124,7 @@ module _ {table : TableId} {key : Plan} {now : Opened} (about : Stands table key
   look_is_quiet state kept = (tt, λ _. refl, λ _. refl, λ _. refl, λ _. refl)
 
   groups : key.groups ≡ now.plan.groups
-  groups = ap (λ (plan : Plan). plan.groups) about.key_is
+  groups = cc
 
   own_groups : seat.me.0.plan.groups ≡ now.plan.groups
   own_groups = ap (λ (d : Opened). d.plan.groups) sits.own
@@ -143,35 +137,20 @@ module _ {table : TableId} {key : Plan} {now : Opened} (about : Stands table key
   pub looks_at_turn : (group place : ℕ) → group < now.plan.groups → place ≡ turn_place now.plan group
       → Permits place (λ n. n) (says has_looked_at_turn place 0)
   looks_at_turn group place low is = reads look place (says has_looked_at_turn place 0) (omega arith) refl look_is_quiet
-      (λ state kept goes. (
-        goes,
-        λ other at_place. let there : place ≡ turn_place key other = omega (arith, at_place, groups, own_groups) in
-            rw there
-            (kept.shows.turns other (omega (arith, low, is, there, groups))
-            ∙ ap (λ (plan : Plan). turn_of plan kept.log other) (sym plan_is)),
-      ))
+      (λ state kept goes. (goes, λ other at_place. grind (arith, plan_is, kept.shows.turns other)))
 
   pub looks_at_hints : (group place : ℕ) → group < now.plan.groups → place ≡ hints_place now.plan group
       → Permits place (λ n. n) (says has_looked_at_hints place 0)
   looks_at_hints group place low is =
       reads look place (says has_looked_at_hints place 0) (omega arith) refl look_is_quiet
-      (λ state kept goes. (
-        goes,
-        λ other at_place. let there : place ≡ hints_place key other = omega (arith, at_place, groups, own_groups) in
-            rw there (kept.shows.hints other (omega (arith, low, is, there, groups))),
-      ))
+      (λ state kept goes. (goes, λ other at_place. grind (arith, groups, own_groups, kept.shows.hints other)))
 
   -- a load of any word, which of a group's marks tells what they are
   pub loads_word : (place : ℕ) → place < total now.plan
       → Permits place (λ n. n) (says has_loaded place 0)
   loads_word place low = reads (touched seat.me.0.number (loaded place)) place (says has_loaded place 0) low refl
       (λ state kept. (tt, λ _. refl, λ _. refl, λ _. refl, λ _. refl))
-      (λ state kept goes. (
-        goes,
-        λ group near at_place.
-            let there : place ≡ marks_place key group = omega (arith, at_place, groups, own_groups) in
-            rw there (kept.shows.marks group (omega (arith, near, groups, own_groups))),
-      ))
+      (λ state kept goes. (goes, λ group near at_place. grind (arith, groups, own_groups, kept.shows.marks group)))
 
   -- a way's use bit is set
   pub marks_way : (way place bit : ℕ) → way < ways now.plan → place ≡ marks_place now.plan (group_of_way way)
@@ -231,15 +210,8 @@ module _ {table : TableId} {key : Plan} {now : Opened} (about : Stands table key
         ∙ ap (λ (word : ℕ). hint_at word place) (sym (hints_known group))
 
     may_name : (way id : ℕ) → MayName key seat.me.0.seen way id → MayName key kept.log way id
-    may_name way id may = record {
-      inside = may.inside;
-      real = may.real;
-      place = may.place;
-      hint = ap (λ (hints : ℕ). hint_at hints (way % 8)) (hints_known (group_of_way way)) ∙ may.hint;
-      free = names_known way ∙ may.free;
-      open_claim = ap (λ (k : ℕ). k % 2) (turn_known (group_of key id) may.open_claim) ∙ may.open_claim;
-      absent = λ other has. may.absent other (sym (names_known other) ∙ has);
-    }
+    may_name way id may =
+        grind (arith, names_known, hints_known (group_of_way way), turn_known (group_of key id))
 
   module _ (clerk : seat.me.0.number ≡ 0) where
     pub names_way : (way id : ℕ) → MayName now.plan seat.me.0.seen way id
@@ -377,7 +349,7 @@ grows_by old next event table goes by = let is = goes.next_is in record {
   made = ap (λ (v : View). v.made) is;
   rest = event ∷ goes.between;
   seen = ap (λ (v : View). v.seen) is;
-  acts_are = own_this old.me.0.number event goes.between by ∙ ap (λ (l : List Event). event ∷ l) goes.quiet;
+  acts_are = rw (own_this old.me.0.number event goes.between by, goes.quiet);
   newest = (goes.between ++ old.me.0.seen, ap (λ (v : View). v.seen) is);
   legal = goes.legal;
   steps = ap (λ (v : View). v.steps) is;
@@ -398,7 +370,7 @@ claims_by old next id table goes = let seen = ap (λ (v : View). v.seen) goes.ne
   grows = grows_by old next (claimed old.me.0.number id) table goes refl;
   before = goes.between ++ old.me.0.seen;
   last = seen;
-  absent = (subst (IsLegal old.me.0.plan) seen goes.legal).0.absent;
+  absent = (rw seen at goes.legal).0.absent;
 }
 
 -- the table at opening keeps the rule
@@ -406,35 +378,19 @@ pub opens_so : (plan : Plan) (words : List ℕ) → IsPlan plan → words ≡ re
     → Kept plan (opening words [] (opener plan))
 opens_so plan words sizes is = record {
   log = [];
-  shows = record {
-    size = ap (λ (l : List ℕ). length l) is ∙ length-replicate (total plan) 0;
-    names = λ way low. none way (omega arith);
-    turns = λ group low. none (turn_place plan group) (omega arith);
-    marks = λ group low. none (marks_place plan group) (omega arith);
-    hints = λ group low. none (hints_place plan group) (omega arith);
-  };
+  shows = grind (arith, length-replicate, get_or-replicate);
   legal = tt;
   sizes = sizes;
   made = 0;
-  fits = first;
-  once = λ i j u v at_u at_v calls_u calls_v same. alone i u at_u ∙ sym (alone j v at_v);
+  fits = λ at view there.
+      let first : Fits plan [] 0 (opener plan) = record {
+        plan_is = λ _. refl;
+        later = record { rest = []; is = refl; quiet = λ _. refl };
+        told = ([], refl);
+        few = λ _. omega arith;
+        maker = λ _ _. refl;
+      } in
+      grind arith;
+  once = λ at other view twin at_view at_twin calls its same. grind arith;
   fresh = λ _ _. refl;
 }
-  where
-    none : (at : ℕ) → at < total plan → get_or words at 0 ≡ 0
-    none at low = ap (λ (l : List ℕ). get_or l at 0) is ∙ get_or-replicate (total plan) at 0 0 low
-
-    first : (at : ℕ) (view : View) → get_elem? (opener plan ∷ []) at ≡ some view → Fits plan [] 0 view
-    first zero view e = subst (Fits plan [] 0) (some-injective (opener plan) view e)
-        (record {
-          plan_is = λ _. refl;
-          later = record { rest = []; is = refl; quiet = λ _. refl };
-          told = ([], refl);
-          few = λ _. omega arith;
-          maker = λ _ _. refl;
-        })
-    first (suc at) view e = absurd (some-ne-none view (sym e))
-
-    alone : (at : ℕ) (view : View) → get_elem? (opener plan ∷ []) at ≡ some view → at ≡ 0
-    alone zero view e = refl
-    alone (suc at) view e = absurd (some-ne-none view (sym e))

@@ -11,7 +11,7 @@ use Rattle.nr_ids.specs.Looking.{PassedByClerk, PassesGroup, Scans, ScansGroup, 
 use Rattle.nr_ids.specs.declared.requests.Requested.{Requested}
 use Rattle.nr_ids.specs.declared.requests.Requested.TheVariants as requested
 use Rattle.nr_ids.specs.Answers.{FindsForClaim, FindsWay, LooksForClaim, LooksOn, LooksUp, Requests, WasOpen, WinsAfter}
-use Rattle.nr_ids.specs.Tokens.{Granted, Grows, Opened, Token, Within}
+use Rattle.nr_ids.specs.Tokens.{Granted, Grows, Token, Within}
 use Rattle.std.proofs.lemmas.Bool.Decides.{nat_tests}
 use Rattle.nr_ids.proofs.Hinted.{other_hint}
 use Rattle.nr_ids.proofs.Calls.{grows_next, absent_within, clerk_looks, clerk_on, each_place, lacked_later, looks_after}
@@ -57,12 +57,13 @@ module _ (id group : ℕ) (real : 0 < id) (old : Token) where
       within = within_between [] until.names.rest until.hints refl until.names.seen;
       other = lacks;
     });
-    exact = λ clerk. up_to (λ place. name_of new.seen (way_in group place) ≢ id) count (until.exact clerk)
-        (λ has. lacks
-        (sym
-        (clerk_looks hinted (fitting (hints_of hinted.seen group) hint count) hinted.number new (way_in group count)
-        (until.hints.number ∙ clerk) until.names)
-        ∙ has));
+    exact = λ clerk. up_to (λ place. name_of new.seen (way_in group place) ≢ id) count (until.exact clerk) (grind (
+      arith,
+      lacks,
+      until.names,
+      until.hints.number,
+      clerk_looks hinted (fitting (hints_of hinted.seen group) hint count) hinted.number new (way_in group count),
+    ));
   }
     where
       lacks : name_of hinted.seen (way_in group count) ≢ id
@@ -251,7 +252,7 @@ grant_looks id old new won = let looked = looks_for_claim won.looks_for in (
 pub found_first : (id group way : ℕ) (old new : Token) → group ≡ group_for old id → FindsIn id group old new way
     → FindsAt id old new way
 found_first id group way old new is found = record {
-  looks = inl (found.of ∙ is, subst (λ (g : ℕ). LooksIn id g (way % 8 + 1) old new) is found.looks);
+  looks = inl (found.of ∙ is, rw is at found.looks);
   named = found.named;
 }
 
@@ -268,10 +269,10 @@ module _ (id first second : ℕ) (old mid new : Token) (first_is : first ≡ gro
   found_second way found = record {
     looks = inr (
       found.of ∙ second_is,
-      (mid, by_first, subst (λ (g : ℕ). LooksIn id g (way % 8 + 1) mid new) second_is found.looks),
+      (mid, by_first, rw second_is at found.looks),
     );
     named = let grows = first_looks.1 in let named = found.named in record {
-      inside = subst (λ (d : Opened). way < ways d.plan) grows.directory named.inside;
+      inside = rw grows.directory at named.inside;
       moment = named.moment;
       within = within_since grows named.within;
       had = named.had;
@@ -306,14 +307,7 @@ module _ (id first second : ℕ) (old mid new : Token) (first_is : first ≡ gro
           second = rw second_is at b.looks;
         };
         absent = absent_within id real old new grows.legal here lacked;
-        passed = λ place near. let lack = lacked place near in let within = lack.within in record {
-          moment = lack.moment;
-          later = within.later;
-          until = within.until;
-          since = within.since;
-          from = within.from;
-          other = lack.other;
-        };
+        passed = λ place near. let lack = lacked place near in search;
         exact = λ clerk. none_has old.directory.plan id real new.seen grows.legal
             (each_place id first second old (λ way. name_of new.seen way ≢ id) first_is second_is
             (still_passed (way_in first) id old mid new second_looks.0 clerk (first_looks.1.number ∙ clerk) rest a.exact

@@ -1,5 +1,5 @@
 use Rattle.nr_ids.proofs.Calls.{chooses_leave}
-use Rattle.nr_idmap.proofs.Choosing.{names_leave, stays_so, then_left}
+use Rattle.nr_idmap.proofs.Answering.{names_leave, stays_so, then_left}
 use Rattle.nr_idmap.proofs.Ties.{clerk_tied}
 use Rattle.nr_idmap.proofs.id_map.IdMap.choose.Goals as goal
 

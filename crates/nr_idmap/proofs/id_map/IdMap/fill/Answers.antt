@@ -1,7 +1,6 @@
 use Rattle.std.proofs.Common.{◌≡◌, ap, ◌∙◌, sym, refl}
 use Rattle.nr_idmap.specs.Keepers.{IdTable, Keeper, Owed, Sent}
-use Rattle.nr_idmap.proofs.Answering.{closed_unfound}
-use Rattle.nr_idmap.proofs.Found.{found_not, found_way}
+use Rattle.nr_idmap.proofs.Answering.{closed_unfound, found_not, found_way}
 use Rattle.nr_idmap.proofs.Ties.{searched}
 use Rattle.nr_idmap.proofs.WayCalls.{fill_left, fill_told}
 use Rattle.nr_idmap.proofs.id_map.IdMap.fill.Goals as goal

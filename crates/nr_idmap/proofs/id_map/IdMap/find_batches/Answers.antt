@@ -1,5 +1,5 @@
-use Rattle.std.proofs.Common.{ℕ, ◌≡◌, ◌+◌, ◌-◌, ◌*◌, ◌/◌, ◌<◌, ◌++◌, ◌∙◌, List, [], ap, arith, drop, length, min}
-use Rattle.std.proofs.Common.{sym, take}
+use Rattle.std.proofs.Common.{ℕ, ◌≡◌, ◌+◌, ◌-◌, ◌*◌, ◌/◌, ◌<◌, ◌++◌, ◌∙◌, List, [], ap, arith, drop, length, min, sym}
+use Rattle.std.proofs.Common.{take}
 use Rattle.std.proofs.lemmas.Grind.{div_ceil_times}
 use Rattle.std.proofs.lemmas.List.{drop-drop}
 use Rattle.nr_idmap.specs.declared.wanted.WantedId.{WantedId}

@@ -1,4 +1,4 @@
-use Rattle.nr_idmap.proofs.Hearing.{heard_tied}
+use Rattle.nr_idmap.proofs.Answering.{heard_tied}
 use Rattle.nr_idmap.proofs.id_map.IdMap.hear_writer.Goals as goal
 
 pub invariant_of-writer : goal.invariant_of-writer

@@ -1,4 +1,4 @@
-use Rattle.nr_idmap.proofs.Choosing.{names_leave, stays_so}
+use Rattle.nr_idmap.proofs.Answering.{names_leave, stays_so}
 use Rattle.nr_idmap.proofs.Ties.{clerk_tied}
 use Rattle.nr_idmap.proofs.id_map.IdMap.id_at.Goals as goal
 

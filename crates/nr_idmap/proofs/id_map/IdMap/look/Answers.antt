@@ -1,5 +1,5 @@
 use Rattle.std.proofs.Common.{◌∙◌}
-use Rattle.nr_idmap.proofs.Looking.{copied_rows, look_left, look_tagged}
+use Rattle.nr_idmap.proofs.Answering.{copied_rows, look_left, look_tagged}
 use Rattle.nr_idmap.proofs.Ties.{searched}
 use Rattle.nr_idmap.proofs.id_map.IdMap.look.Goals as goal
 use Rattle.nr_idmap.proofs.id_map.IdMap.look.Goals.{in-Hole, in-Rows}

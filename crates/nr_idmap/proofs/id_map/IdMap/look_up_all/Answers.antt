@@ -1,5 +1,5 @@
-use Rattle.std.proofs.Common.{◌≡◌, ℕ, ◌<◌, ◌∙◌, List, [], ◌∷◌, ◌++◌, Option, ap, get_or, length, take, subst}
-use Rattle.std.proofs.Common.{arith, sym}
+use Rattle.std.proofs.Common.{◌≡◌, ℕ, ◌<◌, ◌∙◌, List, [], ◌∷◌, ◌++◌, Option, ap, get_or, length, take, subst, arith}
+use Rattle.std.proofs.Common.{sym}
 use Rattle.std.proofs.lemmas.List.{length-set, map-append, take_more, take_more_set}
 use Rattle.std.proofs.lemmas.List.Elements.{All-set, All-take}
 use Rattle.nr_ids.specs.declared.plan.Plan.{Plan}

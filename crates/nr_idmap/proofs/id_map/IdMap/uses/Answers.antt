@@ -1,5 +1,5 @@
 use Rattle.nr_ids.proofs.Calls.{takes_leave}
-use Rattle.nr_idmap.proofs.Choosing.{stays_so, then_left}
+use Rattle.nr_idmap.proofs.Answering.{stays_so, then_left}
 use Rattle.nr_idmap.proofs.Ties.{searched}
 use Rattle.nr_idmap.proofs.id_map.IdMap.uses.Goals as goal
 

@@ -1,5 +1,5 @@
 use Rattle.nr_ids.proofs.Calls.{takes_leave}
-use Rattle.nr_idmap.proofs.Choosing.{stays_so}
+use Rattle.nr_idmap.proofs.Answering.{stays_so}
 use Rattle.nr_idmap.proofs.Ties.{clerk_tied}
 use Rattle.nr_idmap.proofs.id_map.IdMap.uses_way.Goals as goal
 

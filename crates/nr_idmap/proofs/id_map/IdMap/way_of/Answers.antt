@@ -1,4 +1,4 @@
-use Rattle.nr_idmap.proofs.Choosing.{stays_so}
+use Rattle.nr_idmap.proofs.Answering.{stays_so}
 use Rattle.nr_idmap.proofs.Ties.{searched}
 use Rattle.nr_idmap.proofs.id_map.IdMap.way_of.Goals as goal
 

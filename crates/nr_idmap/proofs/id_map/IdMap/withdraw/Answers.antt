@@ -3,8 +3,7 @@ use Rattle.nr_ids.specs.Events.{name_of}
 use Rattle.nr_board.specs.Callers.{map_seen}
 use Rattle.nr_model.specs.Maps.{number_of, state_of}
 use Rattle.nr_idmap.specs.Keepers.{Owed}
-use Rattle.nr_idmap.proofs.Answering.{closed_so, closed_unfound}
-use Rattle.nr_idmap.proofs.Found.{found_not, found_way}
+use Rattle.nr_idmap.proofs.Answering.{closed_so, closed_unfound, found_not, found_way}
 use Rattle.nr_idmap.proofs.LedgerLaws.{owed_tells}
 use Rattle.nr_idmap.proofs.Ties.{searched}
 use Rattle.nr_idmap.proofs.WayCalls.{cancel_nothing, cancel_worn, withdrawn_way}
