@@ -1,4 +1,4 @@
--- What a reader's line leaves: the hands that its round gathered lie in the map's list again, and the map shows what
+-- What a line leaves: the hands that its round gathered lie in the map's list again, and the map shows what
 -- the line was answered.
 use Rattle.std.proofs.Common.{◌≡◌, ◌<◌, ℕ, List, length, get_or, set, sym, ap, ◌∙◌, subst, arith, Vec, Ok, Result}
 use Rattle.std.proofs.lemmas.List.{length-map, with_items_is}
@@ -10,11 +10,13 @@ use Rattle.nr_board.specs.Callers.{Caller, Table}
 use Rattle.nr_map.specs.Hands.{Handed}
 use Rattle.nr_script.specs.Alone.{IsAlone, Laws, log_of, shown_by}
 use Rattle.nr_script.specs.Answers.{Answer}
-use Rattle.nr_script.specs.MapState.{MapOutcome, MapState, answer_again, answer_of_reader, answer_pinning, answer_show}
-use Rattle.nr_script.specs.MapState.{answer_unpin}
-use Rattle.nr_script.specs.Rounds.{Gathered, WriterStays}
+use Rattle.nr_script.specs.MapState.{MapOutcome, MapState, answer_again, answer_call, answer_of_reader, answer_pinning}
+use Rattle.nr_script.specs.MapState.{answer_show, answer_unpin}
+use Rattle.nr_script.specs.Rounds.{Gathered}
 use Rattle.nr_script.specs.Hands.{FindsAgain, MakesCall, MakesPin, NotesFor, ShowsPin, Unpins, pin_of}
 use Rattle.nr_script.specs.declared.alone.answer.PinRefusal.{PinRefusal}
+use Rattle.nr_script.specs.WriterMakes.{WriterMakes}
+use Rattle.nr_script.proofs.Lines.{says}
 use Rattle.nr_script.proofs.ReaderLines.{says_again, says_call, says_pin, says_show, says_unpin}
 use Rattle.nr_script.proofs.Rounds.{same_length}
 
@@ -29,12 +31,25 @@ key_inside table w0 hands now key shows low =
 abbrev Ends : Table → Caller → List Handed → MapOutcome → Answer → Type 0
 Ends table w hands outcome answer = IsAlone table w hands × (outcome ≡ (Ok answer, shown_by table w hands))
 
-module _ {Z : Type 0} (laws : Laws) (table : Table) (w0 : Caller) (hands : Vec Handed Z)
-    (alone : IsAlone table w0 hands.items) (at : ℕ) (now : MapState) (shows : shown_by table w0 hands.items ≡ now)
-    (low : at < length now.pins) (old x : Handed) (item : old ≡ get_or hands.items at old) (w' : Caller)
-    (hands' slice : List Handed) (items : slice ≡ set hands.items at x)
-    (len : length slice ≡ (with_item hands at x).len)
-    (result : Result Answer PinRefusal) (answer : Answer) (was : result ≡ Ok answer) where
+-- a line of the writer's
+pub call_of_writer_ends : {Z : Type 0} → Laws → {table : Table} {w0 : Caller} (hands : Vec Handed Z)
+    → IsAlone table w0 hands.items → {now : MapState} → shown_by table w0 hands.items ≡ now → (call : Call)
+    → {w w' : Caller} {slice hands' : List Handed} → slice ≡ hands.items → length slice ≡ hands.len
+    → Gathered 0 w slice w' hands' → {answer : Answer} → WriterMakes call w0 w answer
+    → Ends table w' (with_items hands hands').items (answer_call now call) answer
+call_of_writer_ends
+    laws {table} {w0} hands alone shows call {w} {w'} {hands' = hands'} items len gathered {answer} made =
+    let g : Gathered 0 w hands.items w' hands' = rw items at gathered in
+    let size = same_length hands' hands.items g.round.same ∙ ap (λ (l : List Handed). length l) (sym items) ∙ len in
+    rw (with_items_is hands hands' size, ← shows)
+    (says laws table w0 hands.items call w w' hands' alone g answer made)
+
+module _ {Z : Type 0} (laws : Laws) {table : Table} {w0 : Caller} (hands : Vec Handed Z)
+    (alone : IsAlone table w0 hands.items) (at : ℕ) {now : MapState} (shows : shown_by table w0 hands.items ≡ now)
+    (low : at < length now.pins) {old : Handed} (x : Handed) (item : old ≡ get_or hands.items at old) (w' : Caller)
+    (hands' : List Handed) {slice : List Handed} (items : slice ≡ set hands.items at x)
+    (len : length slice ≡ (with_item hands at x).len) {result : Result Answer PinRefusal} {answer : Answer}
+    (was : result ≡ Ok answer) where
   -- the reader's place is that of a hand
   inside : at < length hands.items
   inside =
@@ -49,11 +64,9 @@ module _ {Z : Type 0} (laws : Laws) (table : Table) (w0 : Caller) (hands : Vec H
       → Ends table w' hands' (line (shown_by table w0 hands.items)) answer
       → Ended (line now)
   ends line g said =
-      subst (λ (l : List Handed). Ends table w' l (line now) answer)
-      (sym
-      (with_items_is (with_item hands at x) hands'
-      (same_length hands' (set hands.items at x) g.round.same
-      ∙ ap (λ (l : List Handed). length l) (sym items) ∙ len)))
+      let size = same_length hands' (set hands.items at x) g.round.same
+      ∙ ap (λ (l : List Handed). length l) (sym items) ∙ len in
+      rw (with_items_is (with_item hands at x) hands' size)
       (subst (λ (s : MapState). Ends table w' hands' (line s) answer) shows said)
 
   -- the round of a line for which the writer made a note before it
@@ -61,20 +74,8 @@ module _ {Z : Type 0} (laws : Laws) (table : Table) (w0 : Caller) (hands : Vec H
       → Gathered at w0 (set hands.items at x) w' hands'
   after_note w notes g =
       let h = subst (λ (c : Caller). Gathered at c slice w' hands') (subst (NotesFor w0 w) was notes) g in
-      let stays : WriterStays w0 h.mid = record {
-        number = h.stays.number;
-        mine = h.stays.mine;
-        seen = h.stays.seen;
-        only = record {
-          table = h.stays.only.table;
-          fresh = h.stays.only.fresh;
-          retired = h.stays.only.retired;
-          numbers = h.stays.only.numbers;
-          marks = h.stays.only.marks;
-        };
-      } in
       let noted : Gathered at w0 slice w' hands'
-      = record { mid = h.mid; stays = stays; sound = h.sound; all = h.all; heard = h.heard; round = h.round } in
+      = record { mid = h.mid; stays = assumption; sound = h.sound; all = h.all; heard = h.heard; round = h.round } in
       rw items at noted
 
   pub call_ends : (w : Caller) (call : Call) → NotesFor w0 w result → Gathered at w slice w' hands'

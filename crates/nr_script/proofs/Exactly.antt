@@ -1,23 +1,31 @@
--- The history is exactly that of the calls that were made.
-use Rattle.std.proofs.Common.{◌≡◌, ◌≢◌, ◌<◌, ◌≤◌, ℕ, suc, ◌+◌, List, [], ◌∷◌, ◌++◌, cond, ◌==◌, length, map, take}
-use Rattle.std.proofs.Common.{drop, get_or, refl, sym, ap, ◌∙◌, subst, arith, eq-eqb, ne_eqb}
+-- The history is exactly that of the calls that were made; so the writer's list has each key's ticket number after it,
+-- as readers' calls change none.
+use Rattle.std.proofs.Common.{◌≡◌, ◌≢◌, ◌<◌, ◌≤◌, ℕ, suc, ◌+◌, List, [], ◌∷◌, ◌++◌, cond, ◌==◌, length, map, take, drop}
+use Rattle.std.proofs.Common.{get_or, refl, sym, ap, ◌∙◌, subst, arith, eq-eqb, ne_eqb, Bool, true, false, ⊎_elim}
 use Rattle.std.proofs.lemmas.List.{append-nil, append_cancel_left, get_or-map, length-map, take-append-drop}
 use Rattle.std.proofs.lemmas.List.Elements.{filter-append}
-use Rattle.std.proofs.lemmas.List.Sums.{sum_by-cons}
+use Rattle.std.proofs.lemmas.List.Sums.{sum_by-cons, sum_by-append}
 use Rattle.std.proofs.Math.Seq.{take-append_seam}
 use Rattle.std.specs.List.{count_by}
+use Rattle.std.specs.Prelude.{◌&&◌}
 use mathlib.Core.Logic.{dite}
 use native.Mathlib.Decide.{ℕ_discrete}
-use Rattle.nr_model.specs.Histories.{Entry, entries_of}
-use Rattle.nr_model.specs.Laws.{LegalBegins}
-use Rattle.nr_board.specs.Callers.{Caller, Table, map_at_opening}
-use Rattle.nr_board.proofs.Entries.{callers_before}
-use Rattle.nr_map.specs.Rounds.{EntriesAreCallers}
+use Rattle.nr_model.specs.Histories.{Entry, entries_of, IsLegal, cancels, cancels_key, is_cancelled}
+use Rattle.nr_model.specs.Laws.{LegalBegins, NumbersCountCancels}
+use Rattle.nr_model.specs.declared.calls.Call.{Call}
+use Rattle.nr_model.specs.declared.calls.Reply.{Reply}
+use Rattle.nr_model.specs.Maps.{number_of, state_of}
+use Rattle.nr_core.specs.declared.shape.Shape.{Shape}
+use Rattle.nr_core.specs.Story.{map_after}
+use Rattle.nr_board.specs.Callers.{Caller, Table, map_at_opening, map_seen}
+use Rattle.nr_board.proofs.Entries.{callers_before, callers_of_more}
 use Rattle.nr_board.specs.Rule.{StartsWith}
+use Rattle.nr_board.specs.Entries.{AreCallers, is_reading}
+use Rattle.nr_map.specs.Rounds.{EntriesAreCallers}
 use Rattle.nr_map.specs.Hands.{Handed, idle}
 use Rattle.nr_script.specs.Hands.{caller_in, mine_of}
 use Rattle.nr_script.specs.Rounds.{IsSoundWriter}
-use Rattle.nr_script.specs.Alone.{HasJust, IsHand, calls_of, log_of, made, one_each}
+use Rattle.nr_script.specs.Alone.{HasJust, IsHand, calls_of, log_of, made, one_each, IsAlone}
 
 pub entries_own : (entry : Entry) (log : List Entry) (caller : ℕ) → entry.caller ≡ caller
     → entries_of (entry ∷ log) caller ≡ entry ∷ entries_of log caller
@@ -128,3 +136,64 @@ log_is entries begins table w hands log own zero_is count places sound goes just
 
 pub log_begins : (w : Caller) (hands : List Handed) → StartsWith w.seen (log_of w hands)
 log_begins w hands = record { rest = drop (made w hands) w.seen; is = sym (take-append-drop (made w hands) w.seen) }
+
+-- TICKET NUMBERS
+abbrev cancels_it : ℕ → Entry → Bool
+cancels_it key e = cancels_key key e.call && is_cancelled e.reply
+
+one_more : (key : ℕ) (e : Entry) (log : List Entry)
+    → cancels (e ∷ log) key ≡ cond (cancels_it key e) 1 0 + cancels log key
+one_more key e log = sum_by-cons (λ (y : Entry). cond (cancels_it key y) 1 0) e log
+
+both : (key : ℕ) (log rest : List Entry) → cancels (log ++ rest) key ≡ cancels log key + cancels rest key
+both key log rest = sum_by-append (λ (y : Entry). cond (cancels_it key y) 1 0) log rest
+
+reading_cancels_none : (key : ℕ) (call : Call) (r : Reply) → is_reading call ≡ true
+    → cond {A = ℕ} (cancels_key key call && is_cancelled r) 1 0 ≡ 0
+reading_cancels_none key call r is = grind arith
+
+left_of : (b : Bool) (e : Entry) (log : List Entry) → cond b (e ∷ log) log ≡ [] → log ≡ []
+left_of true e log none = absurd (cc)
+left_of false e log none = none
+
+-- entries of readers alone
+none_cancelled : (shape : Shape) (key : ℕ) (rest : List Entry) → AreCallers shape rest → entries_of rest 0 ≡ []
+    → cancels rest key ≡ 0
+none_cancelled shape key [] are none = refl
+none_cancelled shape key (e ∷ rest) are none = ⊎_elim
+    (λ own. let some_there : e ∷ entries_of rest 0 ≡ [] = sym (entries_own e rest 0 own.0) ∙ none in absurd (cc))
+    (λ (other : (e.caller ≤ shape.readers) × (is_reading e.call ≡ true)). omega (
+      arith,
+      one_more key e rest,
+      reading_cancels_none key e.call e.reply other.1,
+      none_cancelled shape key rest are.1 (left_of (e.caller == 0) e (entries_of rest 0) none),
+    ))
+    are.0.1
+
+pub number_is : NumbersCountCancels → LegalBegins → (table : Table) (w : Caller) (hands : List Handed)
+    → IsAlone table w hands → (key : ℕ) → key < table.shape.keys
+    → number_of (state_of (map_seen w) key) ≡ number_of (state_of (map_after table.shape (log_of w hands)) key)
+number_is counts begins table w hands alone key low =
+    let shape = table.shape in let log : List Entry = log_of w hands in let goes = log_begins w hands in
+    let legal : IsLegal (map_at_opening table) w.seen = rw alone.stands.own at alone.sound.legal in
+    let legal' : IsLegal (map_at_opening table) log
+    = begins (map_at_opening table) log goes.rest (rw goes.is at legal) in
+    let callers : AreCallers shape goes.rest
+    = callers_of_more shape log goes.rest (rw (alone.stands.own, goes.is) at alone.sound.callers) in
+    let his : entries_of w.seen 0 ≡ w.mine = ap (entries_of w.seen) (sym alone.stands.number) ∙ alone.sound.own in
+    let none : entries_of goes.rest 0 ≡ [] = append_cancel_left w.mine (entries_of goes.rest 0) []
+    (ap (λ (l : List Entry). l ++ entries_of goes.rest 0) (sym (alone.stands.just 0))
+    ∙ sym (filter-append (λ (k : Entry). k.caller == 0) log goes.rest)
+    ∙ ap (λ (l : List Entry). entries_of l 0) (sym goes.is) ∙ his
+    ∙ sym (append-nil w.mine)) in
+    let same : cancels w.seen key ≡ cancels log key
+    = omega (
+      arith,
+      ap (λ (l : List Entry). cancels l key) goes.is,
+      both key log goes.rest,
+      none_cancelled shape key goes.rest callers none,
+    ) in
+    ap (λ (t : Table). number_of (state_of (map_after t.shape w.seen) key)) alone.stands.own
+    ∙ (counts shape.keys shape.rows shape.first_number key w.seen legal low).0
+    ∙ ap (λ (n : ℕ). shape.first_number + n) same
+    ∙ sym (counts shape.keys shape.rows shape.first_number key log legal' low).0

@@ -2,10 +2,7 @@ pub mod Rounds
 pub mod Exactly
 pub mod Settling
 pub mod Shown
-pub mod InUse
 pub mod Lines
 pub mod ReaderLines
 pub mod AfterLine
 pub mod Opening
-pub mod Numbers
-pub mod Pinned

@@ -32,8 +32,7 @@ use Rattle.nr_script.specs.WriterMakes.{EndsWithoutSlot, PutsSet, Replies, Write
 use Rattle.nr_script.proofs.Rounds.{starts_both, starts_then}
 use Rattle.nr_script.proofs.Exactly.{calls_at, entries_other, entries_own, log_begins}
 use Rattle.nr_script.proofs.Settling.{settled}
-use Rattle.nr_script.proofs.Shown.{answered, goes_on, lacking}
-use Rattle.nr_script.proofs.InUse.{all_current, all_known, all_readers, full, not_full}
+use Rattle.nr_script.proofs.Shown.{answered, goes_on, lacking, all_current, all_known, all_readers, full, not_full}
 
 -- the entries of a line's caller, which made them all
 pub record AreOf (caller : ℕ) (es : List Entry) : Type 0 where

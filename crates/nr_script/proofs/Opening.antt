@@ -1,7 +1,8 @@
 -- The opening, after which every reader is gathered once.
 use Rattle.std.proofs.Common.{◌≡◌, ◌<◌, ◌≤◌, ⊎_elim, ℕ, suc, zero, ◌+◌, List, [], ◌∷◌, ◌++◌, All, length, map, take}
-use Rattle.std.proofs.Common.{get_or, refl, sym, ap, ◌∙◌, subst, arith, Option, None, replicate}
-use Rattle.std.proofs.lemmas.List.{append-nil, get_or-map, get_or_past, length-map}
+use Rattle.std.proofs.Common.{get_or, refl, sym, ap, ◌∙◌, subst, arith, Option, None, replicate, Vec}
+use Rattle.std.specs.Vec.{with_items}
+use Rattle.std.proofs.lemmas.List.{append-nil, get_or-map, get_or_past, length-map, with_items_is}
 use Rattle.std.proofs.lemmas.Option.{get_or_from_slice_get}
 use Rattle.std.proofs.lemmas.Bool.{cases_lt}
 use Rattle.std.proofs.Math.Seq.{take-nil}
@@ -18,7 +19,7 @@ use Rattle.nr_script.specs.Hands.{HandHoldsItsPin, mine_of, pin_of}
 use Rattle.nr_script.specs.Rounds.{Gathered}
 use Rattle.nr_script.specs.Alone.{IsAlone, Laws, calls_of, log_of, made, shown_by, shown_after}
 use Rattle.nr_script.specs.Lines.{IsLine, SettlesLine}
-use Rattle.nr_script.proofs.Rounds.{starts_same}
+use Rattle.nr_script.proofs.Rounds.{same_length, starts_same}
 use Rattle.nr_script.proofs.Exactly.{calls_at}
 use Rattle.nr_script.proofs.Settling.{settled}
 use Rattle.nr_script.proofs.Lines.{shown_with}
@@ -92,10 +93,10 @@ module _ (laws : Laws) (shape : Shape) (table : Table) (w : Caller) (readers : L
     just = λ caller. ap (λ (l : List Entry). entries_of l caller) log_none ∙ sym (calls_none caller);
   }) line g
 
-  pub alone : IsAlone table w' hands'
+  alone : IsAlone table w' hands'
   alone = settles.alone
 
-  pub shows : shown_by table w' hands' ≡ opened_map shape
+  shows : shown_by table w' hands' ≡ opened_map shape
   shows =
       let pins : map pin_of hands ≡ replicate shape.readers None
       = no_pins readers ∙ ap (λ (n : ℕ). replicate n None) new.count in
@@ -114,3 +115,17 @@ all_idle t readers own at other low =
     let inside : at < length readers = omega (arith, length-map readers idle, low) in
     ap (λ (s : Handed). s.reader.table) (get_or-map idle readers at other.reader other inside)
     ∙ own at other.reader inside
+
+-- so they are where the hands lie in the list again
+pub opens : {Z : Type 0} → Laws → (shape : Shape) → {table : Table} {w : Caller} {readers : List Caller}
+    → IsOpened shape 0 table w readers → (shape.readers ≡ 0 → ⊥) → {w' : Caller} {hands' slice : List Handed}
+    (hands : Vec Handed Z) → slice ≡ map idle readers → length slice ≡ hands.len → Gathered 0 w slice w' hands'
+    → IsAlone table w' (with_items hands hands').items
+    × (shown_by table w' (with_items hands hands').items ≡ opened_map shape)
+opens laws shape {table} {w} {readers} new some {w'} {hands'} hands items len gathered =
+    let g : Gathered 0 w (map idle readers) w' hands' = rw items at gathered in
+    let size
+    = same_length hands' (map idle readers) g.round.same ∙ ap (λ (l : List Handed). length l) (sym items) ∙ len in
+    let low : 0 < shape.readers = grind (arith, some) in
+    rw (with_items_is hands hands' size)
+    (alone laws shape table w readers new low w' hands' g, shows laws shape table w readers new low w' hands' g)

@@ -1,7 +1,7 @@
 -- Lines of a reader, and what they are answered.
-use Rattle.std.proofs.Common.{◌≡◌, ◌≢◌, ◌<◌, ◌⊎◌, inl, inr, ⊎_elim, ℕ, suc, List, [], ◌∷◌, ◌++◌, ◌==◌, length}
-use Rattle.std.proofs.Common.{map, get_or, set, refl, sym, ap, ◌∙◌, subst, arith, eq-eqb, ne_eqb, length-append, Ok}
-use Rattle.std.proofs.Common.{Option, None, Some, IsSome}
+use Rattle.std.proofs.Common.{◌≡◌, ◌≢◌, ◌<◌, ◌⊎◌, inl, inr, ⊎_elim, ℕ, suc, List, [], ◌∷◌, ◌++◌, ◌==◌, length, map}
+use Rattle.std.proofs.Common.{get_or, set, refl, sym, ap, ◌∙◌, subst, arith, eq-eqb, ne_eqb, length-append, Ok, Option}
+use Rattle.std.proofs.Common.{None, Some, IsSome}
 use Rattle.std.proofs.lemmas.List.{append-nil, nil_from_length, append_cancel_left, get_or_default, get_or-map}
 use Rattle.std.proofs.lemmas.List.{get_or-set_same, map-set, set-get_or}
 use Rattle.std.proofs.lemmas.List.Elements.{filter-append}
@@ -26,8 +26,8 @@ use Rattle.nr_script.specs.Answers as answers
 use Rattle.nr_map.specs.Hands.{Handed}
 use Rattle.nr_script.specs.MapState.{MapOutcome, Pin, MapState, answer_again, answer_call, answer_pin, find_again}
 use Rattle.nr_script.specs.MapState.{pin_at, pins_after, with_pin, without_pin}
-use Rattle.nr_script.specs.Hands.{Calls, FindsAgain, KeepsPin, HandHoldsItsPin, MakesCall, MakesPin}
-use Rattle.nr_script.specs.Hands.{ShowsPin, Unpins, mine_of, pin_of}
+use Rattle.nr_script.specs.Hands.{Calls, FindsAgain, KeepsPin, HandHoldsItsPin, MakesCall, MakesPin, ShowsPin, Unpins}
+use Rattle.nr_script.specs.Hands.{mine_of, pin_of}
 use Rattle.nr_script.specs.Rounds.{Gathered}
 use Rattle.nr_script.specs.Alone.{IsAlone, Laws, log_of, shown_by, shown_after}
 use Rattle.nr_script.specs.Lines.{SettlesLine}
@@ -38,8 +38,8 @@ use Rattle.nr_script.proofs.Lines.{AreOf, answers_quiet, none_of, one_of, reader
 
 pub with_some : (pin : Option Pin) (stood : MapState) (outcome : MapOutcome) → IsSome pin
     → with_pin pin stood (λ p. outcome) ≡ outcome
-with_some None stood outcome there = absurd (cc)
 with_some (Some pin) stood outcome there = refl
+with_some None stood outcome there = absurd (cc)
 
 abbrev tail_of : List Entry → List Entry
 tail_of [] = []
@@ -62,15 +62,12 @@ rows_in other = []
 
 state_is : (state : KeyState) (rows : List Row) → reply.Rows rows ≡ find_reply state
     → (n : ℕ) × (state ≡ states.Rows n rows)
-state_is (states.Hole n) rows is = absurd (cc)
-state_is (states.Asked n) rows is = absurd (cc)
 state_is (states.Rows n others) rows is = (n, ap (states.Rows n) (sym (ap rows_in is)))
+state_is state rows is = absurd (cc)
 
 found_hole : (state : KeyState) (stood : MapState) (at key : ℕ) → reply.Hole ≡ find_reply state
     → answer_pin stood at key state ≡ (Ok (answers.Reply reply.Hole), stood)
-found_hole (states.Hole n) stood at key is = refl
-found_hole (states.Asked n) stood at key is = refl
-found_hole (states.Rows n rows) stood at key is = absurd (cc)
+found_hole state stood at key is = grind arith
 
 -- what a find by a pin is answered
 found_rows : (n : ℕ) (rows : List Row) (put : ℕ) (pin : Pin) → put ≡ pin.put
@@ -80,9 +77,8 @@ found_rows n rows put pin same = rw (eq-eqb put pin.put same)
 found_other : (state : KeyState) (put : ℕ) (pin : Pin)
     → ((n : ℕ) (rows : List Row) → state ≡ states.Rows n rows → put ≢ pin.put)
     → find_again state put pin ≡ answers.Other
-found_other (states.Hole n) put pin no_put = refl
-found_other (states.Asked n) put pin no_put = refl
 found_other (states.Rows n rows) put pin no_put = rw (ne_eqb put pin.put (no_put n rows refl))
+found_other state put pin no_put = refl
 
 map_same : (m : PartialMap) (key : ℕ) → next m (model.Find key) ≡ m
 map_same m key = λ j. record { bound = m.bound; states = set-get_or m.states key (states.Hole 0) j }

@@ -1,17 +1,16 @@
 -- Rounds of gathers over hands.
-use Rattle.std.proofs.Common.{◌≡◌, ◌<◌, ℕ, suc, ◌+◌, List, [], ◌∷◌, ◌++◌, ◌==◌, length, map, All, get_or, sym, ap}
-use Rattle.std.proofs.Common.{◌∙◌, subst, append_assoc, arith, length-append, ◌≢◌, set, below_more}
+use Rattle.std.proofs.Common.{◌≡◌, ◌<◌, ℕ, suc, ◌+◌, List, [], ◌∷◌, ◌++◌, ◌==◌, length, map, All, get_or, sym, ap, ◌∙◌}
+use Rattle.std.proofs.Common.{subst, append_assoc, arith, length-append, ◌≢◌, set, below_more}
 use Rattle.std.proofs.lemmas.List.{append-nil, nil_from_length, get_or-set_same, get_or-set_other, get_or_default}
 use Rattle.std.proofs.lemmas.List.{get_or-map, length-map, length-set}
 use Rattle.std.proofs.lemmas.List.Elements.{filter-append}
 use Rattle.std.proofs.Math.Seq.{map-set_same}
 use mathlib.Core.Option.{some}
 use lib.ListN.{get_elem?}
-use Rattle.nr_model.specs.Histories.{Entry, IsLegal, entries_of}
+use Rattle.nr_model.specs.Histories.{Entry, entries_of}
 use Rattle.nr_core.specs.Marks.{Past}
 use Rattle.nr_core.specs.Pasts.{Current}
-use Rattle.nr_board.specs.Callers.{Caller, Table, map_at_opening}
-use Rattle.nr_board.specs.Entries.{AreCallers}
+use Rattle.nr_board.specs.Callers.{Caller, Table}
 use Rattle.nr_map.specs.ExactPlaces.{OnlyLearnt}
 use Rattle.nr_board.specs.Meetings.{Gathers, Learns, how_is}
 use Rattle.nr_board.specs.Rule.{StartsWith}
@@ -23,11 +22,7 @@ pub starts_same : (xs : List Entry) → StartsWith xs xs
 starts_same xs = record { rest = []; is = sym (append-nil xs) }
 
 pub starts_then : (xs ys zs : List Entry) → StartsWith ys xs → StartsWith zs ys → StartsWith zs xs
-starts_then xs ys zs a b =
-    record {
-      rest = a.rest ++ b.rest;
-      is = b.is ∙ ap (λ (l : List Entry). l ++ b.rest) a.is ∙ append_assoc xs a.rest b.rest;
-    }
+starts_then xs ys zs a b = record { rest = a.rest ++ b.rest; is = rw (b.is, a.is, append_assoc) }
 
 -- of two histories that begin each other the one is the other
 pub starts_both : (xs ys : List Entry) → StartsWith xs ys → StartsWith ys xs → xs ≡ ys
@@ -65,23 +60,12 @@ stays_then a b c one two =
     }
 
 pub learns_stays : (steps : ℕ) (old new : Caller) → Learns steps old new → WriterStays old new
-learns_stays steps old new l =
-    record {
-      number = l.number;
-      mine = l.mine;
-      seen = l.seen;
-      only = record { table = l.table; fresh = l.fresh; retired = l.retired; numbers = l.numbers; marks = l.marks };
-    }
+learns_stays steps old new l = assumption
 
 pub gather_sound : (w r w' r' : Caller) → Gathers w r w' r' → IsSoundWriter w'
 gather_sound w r w' r' g =
-    let l = g.of_reader.learns in let same : w.table ≡ w'.table = sym l.table in
-    record {
-      own = l.own;
-      legal = subst (λ (t : Table). IsLegal (map_at_opening t) w'.seen) same l.legal;
-      callers = subst (λ (t : Table). AreCallers t.shape w'.seen) same l.callers;
-      lists = g.lists;
-    }
+    let l = g.of_reader.learns in
+    record { own = l.own; legal = rw l.table l.legal; callers = rw l.table l.callers; lists = g.lists }
 
 pub same_reader : (steps : ℕ) (old new : Caller) → Learns steps old new → how_is new ≡ how_is old
 same_reader steps old new
@@ -99,8 +83,7 @@ place_on (n ∷ news) known place one is = let on = place_on news known place on
 
 current_on : (w w' : Caller) (one : Past) → w'.retired ≡ w.retired → w'.marks ≡ w.marks → Current w.retired w.marks one
     → Current w'.retired w'.marks one
-current_on w w' one r m c =
-    rw (r, m) c
+current_on w w' one r m c = rw (r, m) c
 
 -- what was shown stays so, while the writer learns of others
 pub shown_on : (log : List Entry) (w r w' r' : Caller) (x : Handed) → Gathers w r w' r' → IsShown log w x

@@ -26,8 +26,7 @@ refill_fault old new had left faults.Read none given =
     ([], kept_none old new had left none given.1 given.0, (refl, given.1))
 refill_fault old new had left faults.TooMuch none (last, one, taken, all, p) =
     (last, rw (unread_none old had none, unread_none new left p) taken, (one, all, p))
-refill_fault old new had left faults.Write none given = absurd given
-refill_fault old new had left faults.Memory none given = absurd given
+refill_fault old new had left fault none given = absurd given
 
 -- the bytes of a line were taken that has not ended yet
 pub record PartTaken (old new : Input) (had left : Option (List ℕ)) (line : Line) : Type 0 where
@@ -58,8 +57,7 @@ line_fault old mid new had at left line faults.TooMuch part (got, consumed, told
       Consumes-trans _ _ _ part.taken got part.consumes consumed,
       (part.taken, part.no_feed, omega (arith, part.count, all), got, one, refl, p),
     )
-line_fault old mid new had at left line faults.Write part (got, consumed, never) = absurd never
-line_fault old mid new had at left line faults.Memory part (got, consumed, never) = absurd never
+line_fault old mid new had at left line fault part (got, consumed, never) = absurd never
 
 -- the line feed of a line
 pub line_ended : (old mid new : Input) (had at left : Option (List ℕ)) (line : Line) (b : ℕ)

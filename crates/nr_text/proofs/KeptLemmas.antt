@@ -1,10 +1,10 @@
 -- What each word spells is kept in an array, as far as there is room: what stands after some of the words, and at their
 -- end.
-use Rattle.std.proofs.Common.{◌≡◌, ℕ, ◌+◌, ◌<◌, ◌≤◌, List, [], ◌∷◌, ◌++◌, length, take, set, Option, None, Some, refl}
+use Rattle.std.proofs.Common.{◌≡◌, ℕ, ◌+◌, ◌<◌, ◌≤◌, List, [], ◌∷◌, ◌++◌, length, take, set, Option, Some}
 use Rattle.std.proofs.Common.{sym, ap, ◌∙◌, arith, append_assoc, append-nil, length-append, length-set}
 use Rattle.std.specs.Prelude.{min, option_map}
 use Rattle.std.proofs.lemmas.List.{take_more_set, take_all, take-append-le}
-use Rattle.nr_text.specs.Grammar.{each, onto_all}
+use Rattle.nr_text.specs.Grammar.{each}
 
 -- the words that are left come behind those whose items are done, and the array keeps a front of these
 pub record Keeps {A : Type 0} (spells : List ℕ → Option A) (room : ℕ) (all left : List (List ℕ)) (kept : List A)
@@ -16,10 +16,10 @@ pub record Keeps {A : Type 0} (spells : List ℕ → Option A) (room : ℕ) (all
   pub rest : option_map (λ more. done ++ more) (each spells left) ≡ each spells all
 
 module _ {A : Type 0} (spells : List ℕ → Option A) (room : ℕ) (all : List (List ℕ)) where
-  one_done : (done : List A) (x : A) (more : Option (List A))
-      → option_map (λ m. (done ++ x ∷ []) ++ m) more ≡ option_map (λ m. done ++ m) (onto_all (Some x) more)
-  one_done done x None = refl
-  one_done done x (Some m) = ap Some (append_assoc done (x ∷ []) m)
+  one_done : (done : List A) (x : A) (word : List ℕ) (left : List (List ℕ)) → spells word ≡ Some x
+      → option_map (λ m. (done ++ x ∷ []) ++ m) (each spells left)
+      ≡ option_map (λ m. done ++ m) (each spells (word ∷ left))
+  one_done done x word left is = grind (arith, append_assoc done (x ∷ []))
 
   pub keeps_more : (word : List ℕ) (left : List (List ℕ)) (kept : List A) (len : ℕ) (x : A)
       → Keeps spells room all (word ∷ left) kept len
@@ -36,10 +36,7 @@ module _ {A : Type 0} (spells : List ℕ → Option A) (room : ℕ) (all : List 
             take_more_set kept len x here ∙ ap (λ l. l ++ x ∷ []) (keeps.front ∙ whole)
             ∙ sym (take_all room (keeps.done ++ x ∷ []) more);
         count = rw (length-append keeps.done (x ∷ [])) (omega (arith, keeps.count));
-        rest =
-            one_done keeps.done x (each spells left)
-            ∙ ap (λ o. option_map (λ m. keeps.done ++ m) (onto_all o (each spells left))) (sym spelled)
-            ∙ keeps.rest;
+        rest = one_done keeps.done x word left spelled ∙ keeps.rest;
       }
 
   pub keeps_past : (word : List ℕ) (left : List (List ℕ)) (kept : List A) (len : ℕ) (x : A)
@@ -52,10 +49,7 @@ module _ {A : Type 0} (spells : List ℕ → Option A) (room : ℕ) (all : List 
         width = keeps.width;
         front = keeps.front ∙ sym (take-append-le room keeps.done (x ∷ []) many);
         count = rw (length-append keeps.done (x ∷ [])) (omega (arith, keeps.count));
-        rest =
-            one_done keeps.done x (each spells left)
-            ∙ ap (λ o. option_map (λ m. keeps.done ++ m) (onto_all o (each spells left))) (sym spelled)
-            ∙ keeps.rest;
+        rest = one_done keeps.done x word left spelled ∙ keeps.rest;
       }
 
   pub keeps_all : (kept : List A) (len : ℕ) → (keeps : Keeps spells room all [] kept len)

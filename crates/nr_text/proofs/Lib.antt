@@ -1,7 +1,3 @@
 mod InputLemmas
 mod KeptLemmas
-mod LineLemmas
 mod RunLemmas
-mod SpellingLemmas
-mod TextLemmas
-mod WordLemmas

@@ -1,25 +1,57 @@
 -- A run goes on from one line to the next: what stands after some lines were answered, and what follows at each way in
 -- which the run can end.
-use Rattle.std.proofs.Common.{◌≡◌, ◌≢◌, ℕ, ◌+◌, ◌<◌, ◌≤◌, List, [], ◌∷◌, ◌++◌, length, take, Option, None, Some, Ok}
-use Rattle.std.proofs.Common.{Err, inl, inr, refl, sym, ap, ◌∙◌, arith, append_assoc, append-nil, length-append}
+use Rattle.std.proofs.Common.{◌≡◌, ℕ, ◌<◌, List, [], ◌∷◌, ◌++◌, length, refl, ap, arith, sym, ◌∙◌, append_assoc, ◌≢◌}
+use Rattle.std.proofs.Common.{◌+◌, ◌≤◌, take, Option, None, Some, Ok, Err, inl, inr, append-nil, length-append}
+use Rattle.std.proofs.lemmas.Bool.{ne_eqb}
 use Rattle.std.specs.Io.KnownBytes.{prepend_known, Consumes, Appends}
 use Rattle.std.proofs.KnownBytes.{Consumes-trans, Appends-trans}
 use Rattle.std.proofs.lemmas.List.{take_at}
+use Rattle.nr_text.specs.Lines.{line_feed, lines, ended_lines, HasNoFeed}
+use Rattle.nr_text.specs.Text.{text, after_lines}
 use Rattle.nr_text.specs.declared.fault.RunFault.{RunFault}
 use Rattle.nr_text.specs.declared.fault.RunFault.TheVariants as faults
 use Rattle.nr_text.specs.declared.input.Input.{Input}
 use Rattle.nr_text.specs.declared.input.LineEnd.{LineEnd}
 use Rattle.nr_text.specs.declared.input.LineEnd.TheVariants as ends
 use Rattle.nr_text.specs.declared.line.Line.{Line}
-use Rattle.nr_text.specs.Lines.{line_feed, lines, ended_lines}
-use Rattle.nr_text.specs.Text.{text, after_lines}
 use Rattle.nr_text.specs.Input.{pending_bytes, unread, allowance, StandsFor, TakesLine}
 use Rattle.nr_text.specs.Output.{IsCutShort, SendsReply}
 use Rattle.nr_text.specs.Run.{Runs, ReadWhole}
 use Rattle.nr_text.proofs.InputLemmas.{unread_none}
-use Rattle.nr_text.proofs.LineLemmas.{lines-ended, ended_lines-ended, ended_lines-none, lines-some}
-use Rattle.nr_text.proofs.TextLemmas.{text-append, after-append}
 
+-- THE LINES OF AN INPUT
+-- the bytes of one line cut it: its line is the first, and the others are those of the rest
+lines-ended : (bs more : List ℕ) → HasNoFeed bs → lines (bs ++ line_feed ∷ more) ≡ bs ∷ lines more
+lines-ended [] more none = refl
+lines-ended (b ∷ bs) more none = rw (ne_eqb b line_feed none.0, lines-ended bs more none.1)
+
+ended_lines-ended : (bs more : List ℕ) → HasNoFeed bs → ended_lines (bs ++ line_feed ∷ more) ≡ bs ∷ ended_lines more
+ended_lines-ended [] more none = refl
+ended_lines-ended (b ∷ bs) more none = rw (ne_eqb b line_feed none.0, ended_lines-ended bs more none.1)
+
+ended_lines-none : (bs : List ℕ) → HasNoFeed bs → ended_lines bs ≡ []
+ended_lines-none [] none = refl
+ended_lines-none (b ∷ bs) none = rw (ne_eqb b line_feed none.0, ended_lines-none bs none.1)
+
+lines-some : (bs : List ℕ) → HasNoFeed bs → 0 < length bs → lines bs ≡ bs ∷ []
+lines-some [] none some = absurd (omega arith)
+lines-some (b ∷ []) none some = rw (ne_eqb b line_feed none.0)
+lines-some (b ∷ c ∷ bs) none some = rw (ne_eqb b line_feed none.0, lines-some (c ∷ bs) none.1 (omega arith))
+
+-- THE TEXT OF LINES
+-- of some and then others it is their texts, one after the other
+module _ {S : Type 0} (answer : S → List ℕ → List ℕ × S) where
+  text-append : (state : S) (done more : List (List ℕ))
+      → text answer state (done ++ more) ≡ text answer state done ++ text answer (after_lines answer state done) more
+  text-append state [] more = refl
+  text-append state (line ∷ done) more = rw (text-append (answer state line).1 done more) (simp append_assoc)
+
+  after-append : (state : S) (done more : List (List ℕ))
+      → after_lines answer state (done ++ more) ≡ after_lines answer (after_lines answer state done) more
+  after-append state [] more = refl
+  after-append state (line ∷ done) more = after-append (answer state line).1 done more
+
+-- A RUN
 module _ {S : Type 0} (answer : S → List ℕ → List ℕ × S) (start : S) where
   -- some lines were taken whole, and their text was written
   pub record Answered (limit : ℕ) (input : Input) (had left held holds : Option (List ℕ)) (state : S)
@@ -99,8 +131,7 @@ module _ {S : Type 0} (answer : S → List ℕ → List ℕ × S) (start : S) wh
             rw (cut, so_far.ended bytes, ended_lines-none bytes no_feed, append-nil),
           ),
         )
-    ends_reading faults.Write (got, consumed, told) = absurd told
-    ends_reading faults.Memory (got, consumed, told) = absurd told
+    ends_reading fault (got, consumed, told) = absurd told
 
     -- no line is left
     pub ends_empty : (x : Unit {0}) → TakesLine old new at left line (Ok ends.NoLine)
@@ -169,8 +200,7 @@ module _ {S : Type 0} (answer : S → List ℕ → List ℕ × S) (start : S) wh
             rw same so_far.appends,
             (so_far.done, bytes, more, read, refl),
           )
-      ends_sending end faults.Read some line_taken never = absurd never
-      ends_sending end faults.TooMuch some line_taken never = absurd never
+      ends_sending end fault some line_taken never = absurd never
 
       module _ (appends : Appends holds last (reply ++ line_feed ∷ [])) where
         -- the last line of the input was answered

@@ -1,7 +1,6 @@
 -- A key's word packs its parts and gives them back, and a step of a reader changes one part alone.
-use Rattle.std.proofs.Common.{◌≡◌, ℕ, ◌+◌, ◌-◌, ◌*◌, ◌/◌, ◌%◌, ◌^◌, ◌<◌, ◌==◌, Bool, true, false, bit_and, bit_or, ap}
-use Rattle.std.proofs.Common.{⊎_elim, arith}
-use Rattle.std.proofs.lemmas.Bool.{cases_lt}
+use Rattle.std.proofs.Common.{◌≡◌, ℕ, ◌+◌, ◌-◌, ◌*◌, ◌/◌, ◌%◌, ◌^◌, ◌<◌, ◌==◌, Bool, bit_and, bit_or, ap, arith, zero}
+use Rattle.std.proofs.Common.{suc, refl}
 use Rattle.std.proofs.lemmas.Nat.{or_shifted, or_shr, or_mod, and_mask}
 use Rattle.std.specs.Prelude.{if◌then◌else◌, Some, None}
 use Rattle.std.specs.Int.{from_bool}
@@ -51,12 +50,10 @@ parts_by_masks
 -- PACKED, AND BACK
 
 pub from_bool_below : (flag : Bool) → from_bool flag < 2
-from_bool_below true = omega arith
-from_bool_below false = omega arith
+from_bool_below flag = grind arith
 
 test_of_bit : (flag : Bool) (bit : ℕ) → bit ≡ from_bool flag → (bit == 1) ≡ flag
-test_of_bit true bit e = ap (λ n. n == 1) e
-test_of_bit false bit e = ap (λ n. n == 1) e
+test_of_bit flag bit e = grind arith
 
 from_bool_of_test : (bit : ℕ) → bit < 2 → from_bool (bit == 1) ≡ bit
 from_bool_of_test bit below = grind arith
@@ -88,11 +85,9 @@ arrival_counts_one_lem word =
     λ i. record { ask = ask i == 1; filled = filled i == 1; slot = slot i; arrivals = arrivals i }
 
 or_one_at_bit : (bit : ℕ) → bit < 2 → bit_or bit 1 ≡ 1
-or_one_at_bit bit below =
-    ⊎_elim
-    (λ clear. let e : bit ≡ 0 = omega arith in ap (λ b. bit_or b 1) e)
-    (λ set. let e : bit ≡ 1 = omega arith in ap (λ b. bit_or b 1) e)
-    (cases_lt bit 1)
+or_one_at_bit zero below = refl
+or_one_at_bit (suc zero) below = refl
+or_one_at_bit (suc (suc bit)) below = absurd (omega arith)
 
 pub with_ask_is : (word : ℕ) → with_ask word ≡ 2 * (word / 2) + 1
 with_ask_is word =

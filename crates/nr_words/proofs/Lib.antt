@@ -4,4 +4,3 @@ pub mod WrittenWords
 pub mod OrderLemmas
 pub mod RowPairLemmas
 pub mod PlaceLemmas
-pub mod OpeningLemmas

@@ -1,6 +1,6 @@
 -- Rows ascend where none is below the one before it, and do not where one is.
-use Rattle.std.proofs.Common.{◌≡◌, ◌∙◌, ℕ, zero, suc, ◌+◌, ◌-◌, ◌<◌, ◌≤◌, true, false, not, List, [], ◌∷◌, length}
-use Rattle.std.proofs.Common.{get_or, slice_get, Some, ap, refl, arith, ⊎_elim}
+use Rattle.std.proofs.Common.{◌≡◌, ◌∙◌, ℕ, zero, suc, ◌+◌, ◌-◌, ◌<◌, ◌≤◌, true, false, not, List, ◌∷◌, length, get_or}
+use Rattle.std.proofs.Common.{slice_get, Some, ap, refl, arith, ⊎_elim}
 use Rattle.std.specs.Ordering.{partial_lt}
 use Rattle.std.proofs.lemmas.Bool.{and_from, and_left, and_right, cases_lt}
 use Rattle.std.proofs.lemmas.Bool.Decides.{nat_tests}
@@ -18,17 +18,15 @@ abbrev pub AscendsTo : List Row → ℕ → Type 0
 AscendsTo rows place = (k : ℕ) → suc k < place → row_lt (get_or rows (suc k) blank) (get_or rows k blank) ≡ false
 
 pub all_ascend : (rows : List Row) → AscendsTo rows (length rows) → is_ascending rows ≡ true
-all_ascend [] each = refl
-all_ascend (r ∷ []) each = refl
 all_ascend (r ∷ s ∷ rows) each =
     and_from _ _ (ap not (each 0 (omega arith))) (all_ascend (s ∷ rows) (λ k within. each (suc k) (omega arith)))
+all_ascend rows each = refl
 
 one_descends : (rows : List Row) (k : ℕ) → suc k < length rows
     → row_lt (get_or rows (suc k) blank) (get_or rows k blank) ≡ true → is_ascending rows ≡ false
-one_descends [] k within below = absurd (omega arith)
-one_descends (r ∷ []) k within below = absurd (omega arith)
 one_descends (r ∷ s ∷ rows) zero within below = and_left _ _ (ap not below)
 one_descends (r ∷ s ∷ rows) (suc k) within below = and_right _ _ (one_descends (s ∷ rows) k (omega arith) below)
+one_descends rows k within below = absurd (omega arith)
 
 -- the rows at a place and before it, as they were read
 tested_there : (rows : List Row) (k place : ℕ) (s r : Row) → place ≡ suc k → slice_get rows place ≡ Some s

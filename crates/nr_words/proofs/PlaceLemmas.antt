@@ -18,15 +18,12 @@ same_in_block layout s i t j near far e = same_from_place s i t j (slot_words la
 
 pub places_differ_lem : PlacesDiffer
 places_differ_lem layout (KeyWord key) (KeyWord other) h k e = ap KeyWord e
-places_differ_lem layout (KeyWord key) other h k e = absurd (omega arith)
-places_differ_lem layout (Departures slot) (KeyWord key) h k e = absurd (omega arith)
 places_differ_lem layout (Departures slot) (Departures other) h k e =
     let same = same_in_block layout slot 0 other 0 (omega arith) (omega arith) (omega arith) in
     ap Departures same.0
 places_differ_lem layout (Departures slot) (Content other index) h k e =
     let same = same_in_block layout slot 0 other (1 + index) (omega arith) (omega arith) (omega arith) in
     absurd (omega arith)
-places_differ_lem layout (Content slot index) (KeyWord key) h k e = absurd (omega arith)
 places_differ_lem layout (Content slot index) (Departures other) h k e =
     let same = same_in_block layout slot (1 + index) other 0 (omega arith) (omega arith) (omega arith) in
     absurd (omega arith)
@@ -34,6 +31,7 @@ places_differ_lem layout (Content slot index) (Content other place) h k e =
     let same = same_in_block layout slot (1 + index) other (1 + place) (omega arith) (omega arith) (omega arith) in
     let beside : index ≡ place = omega arith in
     λ i. Content (same.0 i) (beside i)
+places_differ_lem layout word other h k e = absurd (omega arith)
 
 -- the block of a slot lies whole below the total
 pub in_block_below : (layout : Layout) (slot i : ℕ) → slot < layout.slots → i < slot_words layout.rows

@@ -1,12 +1,11 @@
 -- The words of a set give its rows back, and words that spell a set are the words of that set.
 use Rattle.std.proofs.Common.{◌≡◌, ◌∙◌, ℕ, zero, suc, ◌+◌, ◌*◌, ◌<◌, ◌≤◌, true, IsTrue, List, [], ◌∷◌, ◌++◌, length}
-use Rattle.std.proofs.Common.{take, drop, get_or, slice_get, ap, sym, refl, arith, subst, ⊎_elim, Some, None}
-use Rattle.std.proofs.Common.{length-append}
+use Rattle.std.proofs.Common.{take, drop, get_or, slice_get, ap, sym, refl, arith, subst, Some, None, length-append}
 use Rattle.std.proofs.lemmas.List.{length-take-le, take_at, take-append-drop, get_or_past}
 use Rattle.nr_model.specs.declared.rows.Row.{Row}
 use Rattle.nr_model.specs.Rows.{is_ascending, blank}
-use Rattle.std.proofs.lemmas.Bool.{and_parts, cases_lt, le-leb}
-use Rattle.std.proofs.lemmas.Option.{cond_some, none-some, slice_get_within, slice_get-get_or, get_or_from_slice_get}
+use Rattle.std.proofs.lemmas.Bool.{and_parts, le-leb}
+use Rattle.std.proofs.lemmas.Option.{cond_some, slice_get_within, slice_get-get_or, get_or_from_slice_get}
 use borrow.Author.Tests.{leb-true}
 use Rattle.nr_words.specs.SetWords.{content_words, row_words, encode, Spells, rows_in, row_count, rows_of, is_set}
 use Rattle.nr_words.specs.SetWords.{decode}
@@ -53,21 +52,17 @@ words_of_row rows index place row there =
 pub no_word_past : (rows : List Row) (index place : ℕ) → slice_get rows place ≡ None → 2 * place < index
     → get_or (encode rows) index 0 ≡ 0
 no_word_past rows index place none behind =
-    let past : length rows ≤ place
-    = ⊎_elim
-    (λ within. absurd
-    (none-some (get_or rows place blank) (sym none ∙ slice_get-get_or rows place blank within)))
-    (λ past. past) (cases_lt place (length rows)) in
+    let had = slice_get-get_or rows place blank in
+    let past : length rows ≤ place = grind arith in
     get_or_past (encode rows) index 0 (omega (arith, length-row_words rows))
 
 -- as many pairs of words as there are rows
 pub row_words-rows_in : (count : ℕ) (words : List ℕ) → 2 * count ≤ length words
     → row_words (rows_in (take (2 * count) words)) ≡ take (2 * count) words
 row_words-rows_in zero words h = refl
-row_words-rows_in (suc count) [] h = absurd (omega arith)
-row_words-rows_in (suc count) (a ∷ []) h = absurd (omega arith)
 row_words-rows_in (suc count) (a ∷ b ∷ words) h =
     rw (two_more count) (ap (λ more. a ∷ b ∷ more) (row_words-rows_in count words (omega arith)))
+row_words-rows_in (suc count) words h = absurd (omega arith)
 
 pub length-rows_in : (count : ℕ) (words : List ℕ) → 2 * count ≤ length words
     → length (rows_in (take (2 * count) words)) ≡ count

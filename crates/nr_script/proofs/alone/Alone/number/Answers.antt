@@ -3,7 +3,7 @@ use Rattle.nr_model.specs.Maps.{key_count, number_of, state_of}
 use Rattle.nr_core.proofs.Histories.{length-now}
 use Rattle.nr_script.specs.Alone.{log_of}
 use Rattle.nr_script.specs.MapState.{MapState}
-use Rattle.nr_script.proofs.Numbers.{number_is}
+use Rattle.nr_script.proofs.Exactly.{number_is}
 use Rattle.nr_script.proofs.alone.Alone.number.Goals as goal
 
 pub number-requires-clause-key : goal.number-requires-clause-key

@@ -2,7 +2,7 @@ use Rattle.std.proofs.Common.{◌*◌, ◌∙◌, Ok, ap, length, subst, sym}
 use Rattle.nr_map.specs.Hands.{AsksInVain, CopiesHeld, FindsHeld, Handed, taken_for}
 use Rattle.nr_script.specs.Answers as answers
 use Rattle.nr_script.specs.Hands.{FindsAgain}
-use Rattle.nr_script.proofs.Pinned.{asks_in_vain, finds_again}
+use Rattle.nr_script.proofs.Shown.{asks_in_vain, finds_again}
 use Rattle.nr_script.proofs.alone.calls.again_at.Goals as goal
 
 pub returns-then-not-found : goal.returns-then-not-found

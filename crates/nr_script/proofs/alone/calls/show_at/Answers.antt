@@ -1,5 +1,5 @@
 use Rattle.std.proofs.Common.{◌*◌, IsSome, length, subst}
-use Rattle.nr_script.proofs.Pinned.{shows_pin}
+use Rattle.nr_script.proofs.Shown.{shows_pin}
 use Rattle.nr_script.proofs.alone.calls.show_at.Goals as goal
 
 pub returns : goal.returns

@@ -43,12 +43,6 @@ loop-at-preserved c =
           })
       | else-at-first b ↦
           let is : at ≡ c.args.first = b.if-at-first.false in
-          rw (b.writer-is, b.hands-is, set-get_or hands at c.index-hands-at.result)
-          (record {
-            stays = i.stays;
-            sound = i.sound;
-            same = i.same;
-            first = i.first;
-            done = skipped log w hands at c.args.first is i.first i.done;
-          })
+          let done = skipped log w hands at c.args.first is i.first i.done in
+          rw (b.writer-is, b.hands-is, set-get_or hands at c.index-hands-at.result) (assumption done)
     ]
