@@ -1,7 +1,6 @@
 -- What a history has of each key, summed over all keys; and that a beginning which is at least and at most is all.
 use Rattle.std.proofs.Common.{◌≡◌, ◌≢◌, ℕ, ◌+◌, ◌&&◌, Bool, false, cond, List, [], ◌∷◌, get_or, length, refl, ap, arith}
-use Rattle.std.proofs.Common.{append-nil, length-append}
-use Rattle.std.specs.List.{count_by}
+use Rattle.std.proofs.Common.{append-nil, length-append, count_by}
 use Rattle.std.proofs.lemmas.List.{nil_from_length}
 use Rattle.nr_model.proofs.HistoryLemmas.{count_by-cons, sends_are_answered_lem}
 use Rattle.nr_model.specs.declared.states.KeyState.{KeyState}
@@ -11,12 +10,12 @@ use Rattle.nr_model.specs.Histories.{is_send, sends}
 use Rattle.nr_model.specs.Laws.{pending}
 use Rattle.nr_model.specs.Maps.{call_key, state_of}
 use Rattle.nr_core.proofs.Histories.{length-now}
-use Rattle.nr_core.proofs.Sums.{below-change, below-first, below-same, below-sum, below-zero}
+use Rattle.nr_core.proofs.Sums.{below-first, below-same, below-sum}
 use Rattle.nr_core.specs.declared.shape.Shape.{Shape}
 use Rattle.nr_core.specs.Slots.{bound_of}
 use Rattle.nr_core.specs.Story.{map_after}
 use Rattle.nr_core.specs.Sums.{below, total}
-use Rattle.nr_map.proofs.Gathered.{entries_are_callers_lem}
+use Rattle.nr_map.proofs.Gathered.{by_index, entries_are_callers_lem}
 use Rattle.nr_board.specs.Entries.{AreCallers}
 use Rattle.nr_map.specs.Rounds.{BeginningsMeet, SendsOfAllKeys, is_cancel, is_fill, is_sent}
 
@@ -24,23 +23,12 @@ use Rattle.nr_map.specs.Rounds.{BeginningsMeet, SendsOfAllKeys, is_cancel, is_fi
 by_keys : (tests : ℕ → Entry → Bool) (shape : Shape) (log : List Entry)
     → ((key : ℕ) (e : Entry) → key ≢ call_key e.call → tests key e ≡ false) → AreCallers shape log
     → below (λ key. count_by (tests key) log) shape.keys ≡ count_by (λ e. tests (call_key e.call) e) log
-by_keys tests shape [] other all = below-zero shape.keys
-by_keys tests shape (e ∷ log) other all =
-    let f : ℕ → ℕ = λ key. count_by (tests key) log in
-    let g : ℕ → ℕ = λ key. count_by (tests key) (e ∷ log) in
-    let own : ℕ = call_key e.call in
-    let change = below-change f g shape.keys own all.0.0 (λ key isnt.
-    let none : cond {A = ℕ} (tests key e) 1 0 ≡ 0 = ap (λ (b : Bool). cond {A = ℕ} b 1 0) (other key e isnt) in
-    let more : g key ≡ cond {A = ℕ} (tests key e) 1 0 + f key = count_by-cons (tests key) e log in
-    omega arith) in
-    let here : g own ≡ cond (tests own e) 1 0 + f own = count_by-cons (tests own) e log in
-    omega (
-      arith,
-      change,
-      here,
-      by_keys tests shape log other all.1,
-      count_by-cons (λ (x : Entry). tests (call_key x.call) x) e log,
-    )
+by_keys tests shape log other all =
+    by_index shape (λ (e : Entry). call_key e.call) shape.keys (λ e is. is.0)
+    (λ e. tests (call_key e.call) e) (λ key log. count_by (tests key) log) (λ key. refl)
+    (λ e log. count_by-cons (tests (call_key e.call)) e log)
+    (λ key e log isnt.
+    omega (arith, count_by-cons (tests key) e log, ap (λ (b : Bool). cond {A = ℕ} b 1 0) (other key e isnt))) log all
 
 -- a sum over the keys' states
 by_states : (f : KeyState → ℕ) (l : List KeyState)

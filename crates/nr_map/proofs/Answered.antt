@@ -23,7 +23,7 @@ use Rattle.nr_map.specs.Theorem.{AnswersWhatWasHeard, FindsNoSlot, Goes, IsEntry
 use Rattle.nr_map.specs.Written.{answered}
 use Rattle.nr_map.specs.declared.answers.Asked.TheVariants as asked
 use Rattle.nr_map.proofs.GivenBack.{each_set_comes_out_once_lem}
-use Rattle.nr_map.proofs.SlotBounds.{few_filled}
+use Rattle.nr_map.proofs.NoSlots.{few_filled}
 
 module _ {old new : Caller} where
   goes_on : {steps : ℕ} {entries : List Entry} → Grows steps entries old new → Goes entries old new

@@ -1,14 +1,14 @@
 -- After rounds of gathers the writer's history is that of all callers.
-use Rattle.std.proofs.Common.{◌≡◌, ◌≢◌, ℕ, suc, ◌+◌, ◌<◌, ◌≤◌, Bool, ◌&&◌, cond, List, [], ◌∷◌, length, refl, sym, ap}
-use Rattle.std.proofs.Common.{◌∙◌, arith, eq-eqb, ne_eqb, get_or}
-use Rattle.std.specs.List.{count_by}
+use Rattle.std.proofs.Common.{◌≡◌, ◌≢◌, ℕ, suc, ◌+◌, ◌<◌, Bool, ◌&&◌, cond, List, [], ◌∷◌, length, refl, sym, ap, ◌∙◌}
+use Rattle.std.proofs.Common.{arith, eq-eqb, ne_eqb, get_or, count_by}
 use Rattle.nr_model.proofs.HistoryLemmas.{count_by-cons, sends_are_answered_lem}
 use Rattle.nr_model.specs.Histories.{Entry, asks, entries_of, cancels_key, fills_key, is_cancelled, is_done, is_send}
-use Rattle.nr_core.proofs.Sums.{below-change, below-first, below-zero}
+use Rattle.nr_core.proofs.Sums.{below-change, below-first, below-same, below-zero}
+use Rattle.nr_core.specs.declared.shape.Shape.{Shape}
 use Rattle.nr_core.specs.Sums.{below, total}
 use Rattle.nr_board.proofs.Gathering.{just_calls}
 use Rattle.nr_board.specs.Callers.{Caller}
-use Rattle.nr_board.proofs.Entries.{nobody_else}
+use Rattle.nr_board.specs.Entries.{AreCallers, IsCallers}
 use Rattle.nr_map.specs.Rounds.{EntriesAreCallers, RoundsTellAll, SendsOfAll}
 use Rattle.nr_core.specs.Slots.{bound_of}
 
@@ -16,42 +16,33 @@ pub rounds_tell_all_lem : RoundsTellAll
 rounds_tell_all_lem log readers calls
     heard = λ at other low. just_calls log (get_or readers at other) (calls at other low) (heard at other low)
 
--- the entries of a caller, with one entry more of its own, and of another
-entries_own : (entry : Entry) (log : List Entry) (caller : ℕ) → entry.caller ≡ caller
-    → entries_of (entry ∷ log) caller ≡ entry ∷ entries_of log caller
-entries_own entry log caller is = rw (eq-eqb entry.caller caller is) refl
+-- A history is counted index by index, as by callers or by keys: of the entries of each index those that a test tells.
+module _ (shape : Shape) (index : Entry → ℕ) (n : ℕ) (low : (e : Entry) → IsCallers shape e → index e < n)
+    (test : Entry → Bool) (counts : ℕ → List Entry → ℕ) (none : (at : ℕ) → counts at [] ≡ 0)
+    (own : (e : Entry) (log : List Entry) → counts (index e) (e ∷ log) ≡ cond (test e) 1 0 + counts (index e) log)
+    (other : (at : ℕ) (e : Entry) (log : List Entry) → at ≢ index e → counts at (e ∷ log) ≡ counts at log) where
+  pub by_index : (log : List Entry) → AreCallers shape log → below (λ at. counts at log) n ≡ count_by test log
+  by_index [] callers = below-same (λ at. counts at []) (λ _. 0) n (λ at _. none at) ∙ below-zero n
+  by_index (e ∷ log) callers =
+      omega (
+        arith,
+        below-change (λ at. counts at log) (λ at. counts at (e ∷ log)) n (index e) (low e callers.0)
+            (λ at isnt. sym (other at e log isnt)),
+        own e log,
+        by_index log callers.1,
+        count_by-cons test e log,
+      )
 
-entries_other : (entry : Entry) (log : List Entry) (caller : ℕ) → entry.caller ≢ caller
-    → entries_of (entry ∷ log) caller ≡ entries_of log caller
-entries_other entry log caller isnt = rw (ne_eqb entry.caller caller isnt) refl
+caller_low : (shape : Shape) (e : Entry) → IsCallers shape e → e.caller < suc shape.readers
+caller_low shape e is = grind arith
 
--- who has an entry is one of the callers
-within : (entry : Entry) (log : List Entry) (n : ℕ) → ((caller : ℕ) → n ≤ caller → entries_of (entry ∷ log) caller ≡ [])
-    → entry.caller < n
-within entry log n none = grind (arith, none entry.caller)
+entries_own : (test : Entry → Bool) (e : Entry) (log : List Entry)
+    → count_by test (entries_of (e ∷ log) e.caller) ≡ cond (test e) 1 0 + count_by test (entries_of log e.caller)
+entries_own test e log = rw (eq-eqb e.caller e.caller refl) (count_by-cons test e (entries_of log e.caller))
 
-none_before : (entry : Entry) (log : List Entry) (caller : ℕ) → entries_of (entry ∷ log) caller ≡ []
-    → entries_of log caller ≡ []
-none_before entry log caller none = grind arith
-
--- a history whose callers are below n is counted caller by caller
-by_callers : (test : Entry → Bool) (log : List Entry) (n : ℕ) → ((caller : ℕ) → n ≤ caller → entries_of log caller ≡ [])
-    → below (λ caller. count_by test (entries_of log caller)) n ≡ count_by test log
-by_callers test [] n none = below-zero n
-by_callers test (entry ∷ log) n none =
-    let f : ℕ → ℕ = λ caller. count_by test (entries_of log caller) in
-    let g : ℕ → ℕ = λ caller. count_by test (entries_of (entry ∷ log) caller) in
-    let none_more : (caller : ℕ) → n ≤ caller → entries_of log caller ≡ []
-    = λ caller beyond. none_before entry log caller (none caller beyond) in
-    let inside = within entry log n none in
-    let before = by_callers test log n none_more in
-    let change
-    = below-change f g n entry.caller inside
-    (λ k isnt. ap (count_by test) (sym (entries_other entry log k (λ e. isnt (sym e))))) in
-    let own : g entry.caller ≡ cond (test entry) 1 0 + f entry.caller
-    = ap (count_by test) (entries_own entry log entry.caller refl)
-    ∙ count_by-cons test entry (entries_of log entry.caller) in
-    omega (arith, count_by-cons test entry log)
+entries_other : (test : Entry → Bool) (caller : ℕ) (e : Entry) (log : List Entry) → caller ≢ e.caller
+    → count_by test (entries_of (e ∷ log) caller) ≡ count_by test (entries_of log caller)
+entries_other test caller e log isnt = rw (ne_eqb e.caller caller (λ is. isnt (sym is))) refl
 
 -- a sum over the readers, in the order of their numbers
 in_order : (f : Caller → ℕ) (g : ℕ → ℕ) (readers : List Caller)
@@ -71,10 +62,11 @@ entries_are_callers_lem writer readers test knows =
     let log = writer.seen in
     let g : ℕ → ℕ = λ caller. count_by test (entries_of log caller) in
     let n : ℕ = length readers in
+    let shape = writer.table.shape in
     let all
-    = by_callers test log (suc n)
-    (λ caller beyond. nobody_else writer.table.shape log caller knows.callers
-    (let many = knows.count in omega arith)) in
+    = by_index shape (λ (e : Entry). e.caller) (suc shape.readers) (caller_low shape) test
+    (λ caller log. count_by test (entries_of log caller)) (λ caller. refl) (entries_own test) (entries_other test) log
+    knows.callers in
     let of_writer : g 0 ≡ count_by test writer.mine
     = ap (count_by test) (ap (entries_of log) (sym knows.number) ∙ knows.own) in
     let of_readers = in_order (λ (reader : Caller). count_by test reader.mine) (λ at. g (suc at)) readers
@@ -82,7 +74,7 @@ entries_are_callers_lem writer readers test knows =
     (ap (entries_of log)
     (let next : suc at ≡ (get_or readers at other).number = omega (arith, knows.numbers at other low) in next)
     ∙ knows.each at other low)) in
-    omega (arith, below-first g n)
+    omega (arith, below-first g n, ap (λ (m : ℕ). below g (suc m)) knows.count)
 
 pub sends_of_all_lem : SendsOfAll
 sends_of_all_lem writer readers key knows near = let shape = writer.table.shape in

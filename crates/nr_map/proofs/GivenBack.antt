@@ -1,20 +1,16 @@
 -- A caller that lets no set be overwritten, call by call: each slot's set has the rows of its put number, and so has
 -- each that came out.
 use Rattle.std.proofs.lemmas.Grind.{common_steps, get_or-set_at}
-use Rattle.std.proofs.Common.{Bool, List, [], ap, append-nil, arith, cond, false, get_or, get_or-set_other, inr, length}
-use Rattle.std.proofs.Common.{length-append, length-set, map, refl, subst, suc, sym, true, zero, ℕ, ⊎_elim, ◌++◌, ◌+◌}
-use Rattle.std.proofs.Common.{◌<◌, ◌∙◌, ◌∷◌, ◌≡◌, ◌≢◌, ◌*◌}
-use Rattle.std.proofs.lemmas.Bool.{le-ltb, lt-ltb}
+use Rattle.std.proofs.Common.{Bool, inl, ◌≤◌, ◌⊎◌, List, [], ap, append-nil, arith, cond, false, get_or}
+use Rattle.std.proofs.Common.{get_or-set_other, inr, length, length-append, length-set, map, refl, subst, suc, sym}
+use Rattle.std.proofs.Common.{true, zero, ℕ, ⊎_elim, ◌++◌, ◌+◌, ◌<◌, ◌∙◌, ◌∷◌, ◌≡◌, ◌≢◌, lt-ltb, All, nat_lt}
 use Rattle.std.proofs.lemmas.List.{length-replicate, map-append}
 use Rattle.std.proofs.lemmas.List.Elements.{All-append, All-head, All-nil, All-push, All-tail, All-weaker}
 use Rattle.std.proofs.Math.Seq.{get_or-append_seam}
-use Rattle.std.specs.List.{All}
-use Rattle.std.specs.Prelude.{nat_lt}
 use lib.ListN.{get_elem?}
 use mathlib.Core.Logic.{dite}
 use mathlib.Core.Option.{some, some-injective, some-ne-none}
 use native.Mathlib.Decide.{ℕ_discrete}
-use Rattle.nr_core.proofs.Choices.{by_cases}
 use Rattle.nr_core.specs.declared.shape.Shape.{Shape}
 use Rattle.nr_model.specs.Strays.{count_of_put}
 use Rattle.nr_model.specs.declared.calls.Call.{Call}
@@ -134,39 +130,31 @@ module _ (steps : ℕ) (call : Call) (rows : List Row) (old new : Caller) (put :
         (All-append (HasItsRows put) given out books.gave rows_had);
   }
 
--- what a reclaiming call gives out is what its slot had
-module _ {Room : Type 0} (shows : Room → List Row → Type 0) (others : ℕ) (call : Call) (rows : List Row)
-    (old new : Caller) (before after : Room) (put : List (List Row)) (given : List Given)
-    (books : Books old put given) where
-  gives_what_it_had : (steps : ℕ) (published : Publishes (others + steps) call rows old new) (answer : Reclaimed)
-      → HandsOutAt shows old.table (lists_of old) old.marks published.slot before after steps answer
-      → (numbers (given_by old published.slot answer) ≡ had_number old published.slot)
-      × All (HasItsRows put) (given_by old published.slot answer)
-  gives_what_it_had steps published reclaimed.Set hands =
-      let low : published.slot < old.fresh = omega (arith, published.inside, hands.0) in
-      let slot : ℕ = published.slot in (
-        rw (lt-ltb slot old.fresh low, hands.1) refl,
-        All-push (HasItsRows put) [] (given_at old slot) (All-nil (HasItsRows put))
-            (stands_so old put given slot books low hands.1),
-      )
-  gives_what_it_had steps published reclaimed.Nothing hands = let slot : ℕ = published.slot in (
-    ⊎_elim
-        (λ fresh. rw
-        (le-ltb slot old.fresh
-        (⊎_elim (λ took. omega (arith, took.1)) (λ took. absurd (omega (arith, took.0))) published.took))
-        refl)
-        (λ gone. rw gone
-        (by_cases (λ (b : Bool). [] ≡ cond {A = List ℕ} b [] []) (nat_lt slot old.fresh) (λ _. refl) (λ _. refl)))
-        hands.0,
-    All-nil (HasItsRows put),
-  )
+nothing_had : (slot fresh number : ℕ) (reaped : Bool) → (fresh ≤ slot) ⊎ (reaped ≡ true)
+    → [] ≡ cond (nat_lt slot fresh) (cond reaped [] (number ∷ [])) []
+nothing_had slot fresh number reaped none = grind arith
 
-  gave_back : (steps : ℕ) (published : Publishes (others + steps) call rows old new) (answer : Reclaimed)
+-- what a reclaiming call gives out is what its slot had
+module _ {Room : Type 0} (shows : Room → List Row → Type 0) (before after : Room) (steps : ℕ) {total : ℕ} {call : Call}
+    {rows : List Row} {old new : Caller} {put : List (List Row)} {given : List Given} (books : Books old put given)
+    (published : Publishes total call rows old new) where
+  gave_back : (answer : Reclaimed)
       → HandsOutAt shows old.table (lists_of old) old.marks published.slot before after steps answer
       → Books new (put ++ rows ∷ []) (given ++ given_by old published.slot answer)
-  gave_back steps published answer hands = let gives = gives_what_it_had steps published answer hands in
-      put_goes_on (others + steps) call rows old new put given published books (given_by old published.slot answer)
-      gives.0 gives.1
+  gave_back reclaimed.Set hands =
+      let low : published.slot < old.fresh = omega (arith, published.inside, hands.0) in
+      let one = given_at old published.slot in
+      put_goes_on _ _ _ old new put given published books (one ∷ [])
+      (rw (lt-ltb published.slot old.fresh low, hands.1) refl)
+      (All-push (HasItsRows put) [] one (All-nil (HasItsRows put))
+      (stands_so old put given published.slot books low hands.1))
+  gave_back reclaimed.Nothing hands =
+      put_goes_on _ _ _ old new put given published books []
+      (nothing_had published.slot old.fresh _ _
+      (⊎_elim
+      (λ fresh. ⊎_elim (λ took. inl (omega (arith, took.1))) (λ took. absurd (omega (arith, took.0)))
+      published.took) inr hands.0))
+      (All-nil (HasItsRows put))
 
 -- A REAP
 
@@ -220,16 +208,15 @@ module _ {Room : Type 0} (shows : Room → List Row → Type 0) where
   deal_goes_on : {old new : Caller} {more put : List (List Row)} {out given : List Given} → Books old put given
       → Deals shows old more out new → Books new (put ++ more) (given ++ out)
   deal_goes_on books (Fills key number rows old new before after back done) =
-      gave_back shows 1 _ rows old new before after _ _ books done.steps done.published back done.gives
+      gave_back shows before after done.steps books done.published back done.gives
   deal_goes_on books (FillRefused key number rows _ _ _ _ fault says) =
       books_stay (fill_keeps key number rows fault says.0) books
   deal_goes_on books (Updates bound key batch old new before after back done) =
-      gave_back shows (2 * length done.set + 2) _ done.left old new before after _ _ books done.steps done.published
-      back done.gives
+      gave_back shows before after done.steps books done.published back done.gives
   deal_goes_on books (UpdateRefused bound key batch _ _ _ _ fault says) =
       books_stay (update_keeps bound key batch fault says.0) books
   deal_goes_on books (Replaces key rows old new before after back done) =
-      gave_back shows 1 _ rows old new before after _ _ books done.steps done.published back done.gives
+      gave_back shows before after done.steps books done.published back done.gives
   deal_goes_on books (ReplaceRefused key rows _ _ _ _ fault says) =
       books_stay (replace_keeps key rows fault says.0) books
   deal_goes_on books (Reaps old new before after done) = reap_goes_on shows old new before after _ _ books done

@@ -1,6 +1,5 @@
 -- Calls of the writer that put no set: its slots have the sets that they had.
-use Rattle.std.proofs.Common.{Bool, List, [], ap, arith, cond, false, refl, ℕ, ⊎_elim, ◌∙◌, ◌∷◌, ◌≡◌, append-nil}
-use Rattle.std.specs.Prelude.{Err}
+use Rattle.std.proofs.Common.{Bool, List, [], ap, arith, cond, false, refl, ℕ, ⊎_elim, ◌∙◌, ◌∷◌, ◌≡◌, append-nil, Err}
 use Rattle.nr_core.proofs.Sums.{total-append}
 use Rattle.nr_core.specs.Marks.{LoggedLoad, Marks, Past, with_scan}
 use Rattle.nr_core.specs.Pasts.{Living}
@@ -15,6 +14,7 @@ use Rattle.nr_model.specs.declared.calls.Reply.{Reply}
 use Rattle.nr_model.specs.declared.rows.Row.{Row}
 use Rattle.nr_board.specs.Callers.{Caller, Gains}
 use Rattle.nr_board.specs.Meetings.{Learns}
+use Rattle.nr_board.specs.SlotLists.{lists_of}
 use Rattle.nr_board.specs.WriterAnswers.{CancelsKey, EvictsKey, FillsKey, HasNoSlot, ReplacesKey, SlotsStay, UpdatesKey}
 use Rattle.nr_board.specs.declared.answers.Cancel.{Cancel}
 use Rattle.nr_board.specs.declared.answers.Cancel.TheVariants as cancel
@@ -26,7 +26,7 @@ use Rattle.nr_board.specs.declared.answers.ReplaceFault.{ReplaceFault}
 use Rattle.nr_board.specs.declared.answers.ReplaceFault.TheVariants as replace
 use Rattle.nr_board.specs.declared.answers.UpdateFault.{UpdateFault}
 use Rattle.nr_board.specs.declared.answers.UpdateFault.TheVariants as update
-use Rattle.nr_map.specs.Reclaims.{CancelLeaves, EvictionLeaves, Ledger, NoSlotLeaves, QuietLeaves}
+use Rattle.nr_map.specs.Reclaims.{Ledger}
 use Rattle.nr_map.proofs.Ledgers.{ledger_stays_lem, lived, one_retired}
 
 pub record KeepsSets (old new : Caller) : Type 0 where
@@ -45,19 +45,20 @@ kept_ledger old new gone kept =
 
 module _ {old new : Caller} where
   -- the slots stay, and of the marks all but the polls and the loads
-  slots_keep : (polls : List Past) (loads : List LoggedLoad) → new.number ≡ old.number → new.table ≡ old.table
-      → new.fresh ≡ old.fresh → new.retired ≡ old.retired
+  slots_keep : {lists : SlotLists} (polls : List Past) (loads : List LoggedLoad) → new.number ≡ old.number
+      → new.table ≡ old.table → lists_of new ≡ lists → (lists.fresh ≡ old.fresh) × (lists.retired ≡ old.retired)
       → new.marks ≡ with_scan old.marks polls loads → put_count new.mine ≡ put_count old.mine → KeepsSets old new
-  slots_keep polls loads number table fresh retired marks many = record {
-    number = number;
-    table = table;
-    fresh = fresh;
-    puts = ap (λ (m : Marks). m.puts) marks;
-    sets = ap (λ (m : Marks). m.sets) marks;
-    reaped = ap (λ (m : Marks). m.reaped) marks;
-    living = λ slot lives. rw (retired, marks) at lives;
-    many = many;
-  }
+  slots_keep polls loads number table is (fresh, same) marks many =
+      let retired = ap (λ (l : SlotLists). l.retired) is ∙ same in record {
+        number = number;
+        table = table;
+        fresh = ap (λ (l : SlotLists). l.fresh) is ∙ fresh;
+        puts = ap (λ (m : Marks). m.puts) marks;
+        sets = ap (λ (m : Marks). m.sets) marks;
+        reaped = ap (λ (m : Marks). m.reaped) marks;
+        living = λ slot lives. rw (retired, marks) at lives;
+        many = many;
+      }
 
   quiet_puts : (steps : ℕ) (call : Call) (answer : Reply) → is_done answer ≡ false
       → Gains steps call old new answer → put_count new.mine ≡ put_count old.mine
@@ -68,28 +69,26 @@ module _ {old new : Caller} where
   pub quiet_keeps : (steps : ℕ) (call : Call) (answer : Reply) → is_done answer ≡ false
       → Gains steps call old new answer → SlotsStay old new → KeepsSets old new
   quiet_keeps steps call answer quiet gains stays =
-      slots_keep [] old.marks.loads gains.number gains.table (ap (λ (s : SlotLists). s.fresh) stays.0)
-      (ap (λ (s : SlotLists). s.retired) stays.0) stays.1 (quiet_puts steps call answer quiet gains)
+      slots_keep [] old.marks.loads gains.number gains.table stays.0 (refl, refl) stays.1
+      (quiet_puts steps call answer quiet gains)
 
   pub lacks_keeps : (steps : ℕ) (call : Call) (counts : NoSlot) → HasNoSlot steps call old new counts
       → KeepsSets old new
   lacks_keeps steps call counts without =
-      slots_keep new.marks.polls _ without.grows.number without.grows.table
-      (ap (λ (s : SlotLists). s.fresh) without.slots) (ap (λ (s : SlotLists). s.retired) without.slots) without.marks
-      (ap put_count (without.grows.mine ∙ append-nil old.mine))
+      slots_keep new.marks.polls _ without.grows.number without.grows.table without.slots (refl, refl)
+      without.marks (ap put_count (without.grows.mine ∙ append-nil old.mine))
 
   pub learns_keeps : (steps : ℕ) → Learns steps old new → KeepsSets old new
   learns_keeps steps learns =
-      slots_keep old.marks.polls old.marks.loads learns.number learns.table learns.fresh learns.retired learns.marks
-      (ap put_count learns.mine)
+      slots_keep old.marks.polls old.marks.loads learns.number learns.table refl
+      (learns.fresh, learns.retired) learns.marks (ap put_count learns.mine)
 
   -- only its steps, polls and loads and what it heard are others
   pub rests_keeps : (steps : ℕ) (polls : List Past) (loads : List LoggedLoad) (heard : List ℕ)
       → new ≡ record old { steps = steps; marks = with_scan old.marks polls loads; heard = heard } → KeepsSets old new
   rests_keeps steps polls loads heard is =
-      slots_keep polls loads (ap (λ (c : Caller). c.number) is) (ap (λ (c : Caller). c.table) is)
-      (ap (λ (c : Caller). c.fresh) is) (ap (λ (c : Caller). c.retired) is) (ap (λ (c : Caller). c.marks) is)
-      (ap (λ (c : Caller). put_count c.mine) is)
+      slots_keep polls loads (ap (λ (c : Caller). c.number) is) (ap (λ (c : Caller). c.table) is) (ap lists_of is)
+      (refl, refl) (ap (λ (c : Caller). c.marks) is) (ap (λ (c : Caller). put_count c.mine) is)
 
   pub fill_keeps : (key number : ℕ) (rows : List Row) (fault : FillFault) → FillsKey key number rows old new (Err fault)
       → KeepsSets old new
@@ -109,8 +108,8 @@ module _ {old new : Caller} where
 
   pub cancel_keeps : (key : ℕ) (answer : Cancel) → CancelsKey key old new answer → KeepsSets old new
   cancel_keeps key cancel.Cancelled says =
-      slots_keep [] old.marks.loads says.0.number says.0.table (ap (λ (s : SlotLists). s.fresh) says.1)
-      (ap (λ (s : SlotLists). s.retired) says.1) says.2 (quiet_puts _ _ _ refl says.0)
+      slots_keep [] old.marks.loads says.0.number says.0.table says.1 (refl, refl) says.2
+      (quiet_puts _ _ _ refl says.0)
   cancel_keeps key answer says = quiet_keeps _ _ _ refl says.0 says.1
 
   pub evict_keeps : (key : ℕ) (answer : Evict) → EvictsKey key old new answer → KeepsSets old new
@@ -127,19 +126,3 @@ module _ {old new : Caller} where
         (one_retired key old old.retired new.retired says.3) lives);
     many = quiet_puts _ _ _ refl says.0;
   }
-
--- THE LAWS
-
-pub quiet_leaves_lem : QuietLeaves
-quiet_leaves_lem steps call answer old new gone quiet gains stays =
-    kept_ledger old new gone (quiet_keeps steps call answer quiet gains stays)
-
-pub no_slot_leaves_lem : NoSlotLeaves
-no_slot_leaves_lem steps call counts old new gone without =
-    kept_ledger old new gone (lacks_keeps steps call counts without)
-
-pub cancel_leaves_lem : CancelLeaves
-cancel_leaves_lem key old new answer gone cancels = kept_ledger old new gone (cancel_keeps key answer cancels)
-
-pub eviction_leaves_lem : EvictionLeaves
-eviction_leaves_lem key old new answer gone evicts = kept_ledger old new gone (evict_keeps key answer evicts)

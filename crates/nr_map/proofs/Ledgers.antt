@@ -2,9 +2,7 @@
 -- its slot had, and a reap of the one that it gives out.
 use Rattle.std.proofs.Common.{Bool, List, [], ap, arith, cond, false, get_or, get_or-set_other, get_or-set_same, inl}
 use Rattle.std.proofs.Common.{inr, length, length-set, refl, set, subst, suc, sym, take, true, zero, ℕ, ⊎_elim, ◌++◌}
-use Rattle.std.proofs.Common.{◌+◌, ◌<◌, ◌∙◌, ◌∷◌, ◌≡◌, ◌≤◌, ◌≢◌, ◌⊎◌}
-use Rattle.std.specs.Prelude.{Some, nat_lt, replicate}
-use Rattle.std.proofs.lemmas.Bool.{le-ltb, lt-ltb}
+use Rattle.std.proofs.Common.{◌+◌, ◌<◌, ◌∙◌, ◌∷◌, ◌≡◌, ◌≤◌, ◌≢◌, ◌⊎◌, nat_lt, replicate, le-ltb, lt-ltb}
 use Rattle.std.proofs.lemmas.Grind.{get_or-set_at}
 use Rattle.std.proofs.lemmas.List.{get_or-replicate, get_or_past, length-replicate}
 use lib.ListN.{get_elem?}
@@ -32,8 +30,7 @@ use Rattle.nr_board.specs.Entries.{AreCallers, is_reading}
 use Rattle.nr_board.specs.Reaping.{ready_to}
 use Rattle.nr_board.specs.SlotLists.{not_passed}
 use Rattle.nr_board.specs.WriterAnswers.{Publishes, Retires, RetiresOne}
-use Rattle.nr_map.specs.Reclaims.{GatheredStands, HandedOutOnce, Ledger, LedgerStays, NobodyHoldsIt, OpeningBegins}
-use Rattle.nr_map.specs.Reclaims.{ReapedOnce, StandsAfterReap, had_number, standing, unreaped}
+use Rattle.nr_map.specs.Reclaims.{Ledger, LedgerStays, OpeningBegins, ReapedOnce, had_number, standing, unreaped}
 use Rattle.nr_map.proofs.Standing.{count_both, count_cons, count_had, count_standing, stands_at, stands_nowhere}
 use Rattle.nr_map.proofs.Standing.{stands_there}
 
@@ -126,30 +123,6 @@ stands_once writer gone slot number ledger low is kept =
     let stands = count_stands writer gone number ledger in
     dite (dec_le (put_count writer.mine) number) (λ high. absurd (let none = ledger.later number high in omega arith))
     (λ low'. let all = ledger.put number (omega arith) in (omega arith, omega arith))
-
-pub nobody_holds_it_lem : NobodyHoldsIt
-nobody_holds_it_lem writer gone reader slot number ledger stands holds let_go same =
-    let placed = stands slot holds in
-    let none = (stands_once writer gone slot number ledger (ledger.taken slot placed.1) (placed.0 ∙ same) placed.2).1 in
-    omega arith
-
-pub gathered_stands_lem : GatheredStands
-gathered_stands_lem writer reader current slot holds =
-    let placed = current.placed slot holds in
-    (placed.0, placed.1, current.kept slot holds)
-
-pub stands_after_reap_lem : {Room : Type 0} (shows : Room → List Row → Type 0) → StandsAfterReap shows
-stands_after_reap_lem shows old new before after reader = (
-  λ reaps stands other. rw reaps.new_is (λ slot holds.
-      let was = stands slot holds in (
-        was.0,
-        was.1,
-        get_or-set_other old.marks.reaped reaps.entry.slot slot true false (λ same. other (holds ∙ ap Some same))
-            ∙ was.2,
-      )),
-  λ held stands. rw held.8 stands,
-  λ nothing stands. rw nothing.1 stands,
-)
 
 module _ (steps : ℕ) (call : Call) (rows : List Row) (old new : Caller) (gone : List ℕ) (writes : old.number ≡ 0)
     (published : Publishes steps call rows old new) (ledger : Ledger old gone) where
@@ -300,9 +273,6 @@ module _ (steps : ℕ) (call : Call) (rows : List Row) (old new : Caller) (gone 
             moved.counts number,
             count_both number gone (had_number old published.slot),
           )
-
-pub handed_out_once_lem : HandedOutOnce
-handed_out_once_lem = ledger_goes_on
 
 -- A REAP
 

@@ -3,15 +3,11 @@ pub mod Written
 pub mod AllKeys
 pub mod SetRooms
 pub mod NoSlots
-pub mod SlotBounds
 pub mod HandSteps
 pub mod Pinning
-pub mod Tagging
 pub mod FirstRows
 pub mod Loading
 pub mod FindsEach
-pub mod FindsGroups
-pub mod RowBounds
 pub mod Standing
 pub mod Ledgers
 pub mod Keeping

@@ -1,9 +1,8 @@
 -- Loads ahead, as loops make them one by one.
 use Rattle.std.proofs.lemmas.Grind.{common_steps, flat_map-append}
 use Rattle.std.proofs.Common.{◌≡◌, ℕ, zero, suc, ◌+◌, ◌*◌, min, List, [], ◌∷◌, ◌++◌, length, refl, sym, ap, ◌∙◌, arith}
-use Rattle.std.proofs.Common.{append_assoc, append-nil}
-use Rattle.std.specs.List.{flat_map, zip}
-use Rattle.std.proofs.lemmas.List.{length-append, map-append}
+use Rattle.std.proofs.Common.{append_assoc, append-nil, flat_map, zip, length-append}
+use Rattle.std.proofs.lemmas.List.{map-append}
 use Rattle.std.proofs.lemmas.Slice.Zip.{length-zip}
 use Rattle.nr_words.specs.declared.layout.Layout.{Layout}
 use Rattle.nr_board.specs.Callers.{Caller}
@@ -51,10 +50,10 @@ pub keys_none : (caller : Caller) → LoadsKeys [] [] caller caller
 unfolding places_none
 keys_none caller = record { loads = places_none caller; words_are = refl }
 
-pub keys_more : (keys words : List ℕ) (key word : ℕ) (a b c : Caller) → LoadsKeys keys words a b
+pub keys_more : {keys words : List ℕ} {a b c : Caller} (key word : ℕ) → LoadsKeys keys words a b
     → c ≡ with_loads (load_of key word ∷ []) b → LoadsKeys (keys ++ key ∷ []) (words ++ word ∷ []) a c
 unfolding place_one places_both
-keys_more keys words key word a b c so made = record {
+keys_more {keys} {words} {a} {b} {c} key word so made = record {
   loads = places_both keys (key ∷ []) a b c so.loads (place_one key word b c made);
   words_are =
       rw (map-append (λ (load : Loaded). load.word) so.loads.loads (load_of key word ∷ []), so.words_are) refl;
@@ -66,10 +65,10 @@ keys_count keys words a b so = grind (arith, common_steps)
 
 -- SETS
 module _ (sizes : Layout) where
-  pub sets_more : (words counts : List ℕ) (word count : ℕ) (a b c : Caller) → LoadsSets sizes words counts a b
+  pub sets_more : {words counts : List ℕ} {a b c : Caller} (word count : ℕ) → LoadsSets sizes words counts a b
       → LoadsTwo (begin_of sizes word) (begin_of sizes word + min 8 (more_of sizes word)) count b c
       → LoadsSets sizes (words ++ word ∷ []) (counts ++ count ∷ []) a c
-  sets_more words counts word count a b c so two =
+  sets_more {words} {counts} {a} {b} {c} word count so two =
       let first = begin_of sizes word in
       let both : Loaded × Loaded = (load_of first count, load_of (first + min 8 (more_of sizes word)) two.0) in record {
         loads = so.loads ++ both ∷ [];
@@ -107,10 +106,10 @@ module _ (sizes : Layout) where
   zip_more (w ∷ words) (c ∷ counts) word count long =
       ap (λ (l : List (ℕ × ℕ)). (w, c) ∷ l) (zip_more words counts word count (omega (arith, long)))
 
-  pub lines_more : (words counts : List ℕ) (word count : ℕ) (a b c : Caller) → length words ≡ length counts
+  pub lines_more : (words counts : List ℕ) (word count : ℕ) {a b c : Caller} → length words ≡ length counts
       → LoadsLines sizes words counts a b → LoadsPlaces (further_places sizes (word, count)) b c
       → LoadsLines sizes (words ++ word ∷ []) (counts ++ count ∷ []) a c
-  lines_more words counts word count a b c long so more =
+  lines_more words counts word count {a} {b} {c} long so more =
       let each = further_places sizes in
       let pairs = zip words counts in
       rw (

@@ -1,11 +1,17 @@
--- The exact place of a no-slot.
+-- Where a call finds no slot: each that it finds kept back is kept back by another reader, so it polls few, and a map
+-- with a slot more than keys and readers has one to give; and the exact place.
 use Rattle.std.proofs.Common.{◌≡◌, ℕ, ◌+◌, ◌≤◌, List, [], ◌∷◌, ◌++◌, get_or, inl, inr, ⊎_elim, length, refl, ap, ◌∙◌}
 use Rattle.std.proofs.Common.{arith}
-use Rattle.nr_model.specs.Maps.{filled_count}
+use Rattle.std.proofs.lemmas.List.Sums.{count_by-le-length}
+use Rattle.nr_model.specs.Histories.{Entry}
+use Rattle.nr_model.specs.Maps.{filled_count, is_filled_key}
 use Rattle.nr_core.proofs.ExactPlace.{done_by_marks_lem, no_slot_by_marks_lem}
 use Rattle.nr_core.specs.Exact.{TookFromLists}
+use Rattle.nr_core.proofs.Histories.{length-now}
 use Rattle.nr_core.proofs.PutNumbers.{count_grows, count_more}
+use Rattle.nr_core.specs.declared.shape.Shape.{Shape}
 use Rattle.nr_core.specs.Puts.{put_count}
+use Rattle.nr_core.specs.SlotLists.{SlotLists}
 use Rattle.nr_core.specs.Story.{entry, map_after}
 use Rattle.nr_model.specs.declared.calls.Call.{Call}
 use Rattle.nr_model.specs.declared.calls.Reply.TheVariants as reply
@@ -13,7 +19,31 @@ use Rattle.nr_model.specs.declared.rows.Row.{Row}
 use Rattle.nr_board.specs.WriterAnswers.{Publishes}
 use Rattle.nr_board.specs.Callers.{Caller, Table}
 use Rattle.nr_map.specs.ExactPlaces.{DoneMeansFewerInUse, NoSlotMeansAllInUse}
+use Rattle.nr_map.specs.SlotBounds.{NoSlotIsRare}
 use Rattle.nr_board.specs.Meetings.{desk_seen}
+
+-- no more keys are filled than there are
+pub few_filled : (shape : Shape) (log : List Entry) → filled_count (map_after shape log) ≤ shape.keys
+few_filled shape log =
+    let keys = length-now shape log in
+    let filled = count_by-le-length is_filled_key (map_after shape log).states in
+    omega arith
+
+pub no_slot_is_rare_lem : NoSlotIsRare
+no_slot_is_rare_lem steps call counts old new without =
+    let lacks = without.lacks in
+    let table = without.grows.table in
+    let few = lacks.few in
+    let many = lacks.many in
+    let held = lacks.held in
+    let all = lacks.all in
+    let live = lacks.live in
+    let filled = few_filled new.table.shape new.seen in
+    let retired = ap (λ (s : SlotLists). length s.retired) without.slots in
+    let keys = ap (λ (t : Table). t.shape.keys) table in
+    let slots = ap (λ (t : Table). t.shape.slots) table in
+    let readers = ap (λ (t : Table). t.shape.readers) table in
+    (omega arith, omega arith, λ enough. absurd (omega arith))
 
 pub no_slot_lem : NoSlotMeansAllInUse
 no_slot_lem steps call counts old new after readers all known counted without learnt gathered =

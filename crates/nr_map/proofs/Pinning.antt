@@ -1,9 +1,7 @@
 -- What a hold comes to: for a reader that held nothing, for a hand that let go what it held, and for one that reads the
 -- rows then.
 use Rattle.std.proofs.Common.{◌≡◌, ℕ, ◌+◌, ◌-◌, ◌*◌, ◌<◌, Option, Some, None, ⊎_elim, inl, inr, refl, ap, ◌∙◌, sym}
-use Rattle.std.proofs.Common.{subst, arith, true, List, length}
-use Rattle.std.specs.Prelude.{Ok, Err}
-use Rattle.std.proofs.lemmas.Bool.{le-ltb, lt-ltb}
+use Rattle.std.proofs.Common.{subst, arith, true, List, length, Ok, Err, le-ltb, lt-ltb}
 use Rattle.nr_words.specs.KeyWords.{is_filled}
 use Rattle.nr_model.specs.declared.rows.Row.{Row}
 use Rattle.nr_model.specs.Rows.{IsRowSet}

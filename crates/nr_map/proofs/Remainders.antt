@@ -1,6 +1,5 @@
 -- What comes out of a map that was taken apart: one after another the sets that stand in its slots and were not reaped.
-use Rattle.std.proofs.Common.{List, ap, arith, false, get_or, refl, subst, suc, zero, ℕ, ◌+◌, ◌-◌, ◌<◌, ◌≡◌, ◌≤◌}
-use Rattle.std.specs.List.{All}
+use Rattle.std.proofs.Common.{List, ap, arith, false, get_or, refl, subst, suc, zero, ℕ, ◌+◌, ◌-◌, ◌<◌, ◌≡◌, ◌≤◌, All}
 use Rattle.std.proofs.lemmas.List.Elements.{All-cons, All-nil}
 use Rattle.nr_model.specs.Strays.{count_of_put}
 use Rattle.nr_model.specs.declared.rows.Row.{Row}

@@ -1,7 +1,6 @@
 -- How often a put number stands in slots, counted slot by slot.
-use Rattle.std.proofs.Common.{Bool, List, [], ap, arith, cond, false, get_or, length, refl, suc, take, true, zero}
-use Rattle.std.proofs.Common.{ℕ, ◌++◌, ◌+◌, ◌∷◌, ◌≡◌, ◌≤◌}
-use Rattle.std.specs.Prelude.{nat_eq}
+use Rattle.std.proofs.Common.{Bool, List, [], ap, arith, cond, false, get_or, length, refl, suc, take, true, zero, ℕ}
+use Rattle.std.proofs.Common.{◌++◌, ◌+◌, ◌∷◌, ◌≡◌, ◌≤◌, nat_eq}
 use Rattle.nr_core.proofs.Sums.{below-first}
 use Rattle.nr_core.specs.Sums.{below, only}
 use Rattle.nr_model.proofs.HistoryLemmas.{count_by-cons}
@@ -28,6 +27,12 @@ pub stands_nowhere : (number : ℕ) (puts : List ℕ) (flags : List Bool) (slot 
     → stands_at number puts flags slot ≡ 0
 stands_nowhere number puts flags slot gone = ap (λ (b : Bool). cond {A = ℕ} b 0 (only number (get_or puts slot 0))) gone
 
+counted_first : (number y : ℕ) (flag : Bool) (l : List ℕ) (all others : ℕ)
+    → all ≡ cond flag 0 (only number y) + others → count_of_put l number ≡ others
+    → count_of_put (cond flag l (y ∷ l)) number ≡ all
+counted_first number y true l all others first rest = omega arith
+counted_first number y false l all others first rest = omega (arith, count_cons number y l)
+
 pub count_standing : (number : ℕ) (puts : List ℕ) (flags : List Bool) (taken : ℕ) → taken ≤ length puts
     → count_of_put (unreaped (take taken puts) flags) number ≡ below (stands_at number puts flags) taken
 count_standing number [] flags zero fits = refl
@@ -40,19 +45,10 @@ count_standing number (y ∷ l) [] (suc n) fits =
       count_cons number y (unreaped (take n l) []),
       count_standing number l [] n (omega arith),
     )
-count_standing number (y ∷ l) (true ∷ flags) (suc n) fits =
-    omega (
-      arith,
-      below-first (stands_at number (y ∷ l) (true ∷ flags)) n,
-      count_standing number l flags n (omega arith),
-    )
-count_standing number (y ∷ l) (false ∷ flags) (suc n) fits =
-    omega (
-      arith,
-      below-first (stands_at number (y ∷ l) (false ∷ flags)) n,
-      count_cons number y (unreaped (take n l) flags),
-      count_standing number l flags n (omega arith),
-    )
+count_standing number (y ∷ l) (flag ∷ flags) (suc n) fits =
+    let rest = count_standing number l flags n (omega arith) in
+    let first = below-first (stands_at number (y ∷ l) (flag ∷ flags)) n in
+    counted_first number y flag (unreaped (take n l) flags) _ _ first rest
 
 -- what a slot had, if it was taken
 pub count_had : (number x : ℕ) (taken reaped : Bool)

@@ -1,9 +1,8 @@
 -- What a find answers after a put of its key.
 use Rattle.std.proofs.Common.{◌≡◌, ◌≢◌, ℕ, ◌<◌, Bool, true, false, ◌&&◌, ◌==◌, List, [], ◌∷◌, ◌++◌, length, ⊎_elim, inl}
-use Rattle.std.proofs.Common.{inr, ◌⊎◌, ap, subst, refl, sym, ◌∙◌, arith, append_assoc}
-use Rattle.std.specs.List.{count_by}
+use Rattle.std.proofs.Common.{inr, ◌⊎◌, ap, subst, refl, sym, ◌∙◌, arith, append_assoc, count_by, length-set}
 use Rattle.std.proofs.lemmas.Bool.{cases_eq, cases_Bool, cases_lt}
-use Rattle.std.proofs.lemmas.List.{length-set, length-replicate}
+use Rattle.std.proofs.lemmas.List.{length-replicate}
 use Rattle.nr_core.proofs.Histories.{length-after}
 use Rattle.nr_core.specs.Story.{entry}
 use Rattle.nr_core.specs.Puts.{puts_at}

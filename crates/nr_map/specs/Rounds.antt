@@ -1,6 +1,5 @@
 -- What the writer's history has of all callers after rounds of gathers.
-use Rattle.std.specs.Prelude.{◌≡◌, ℕ, ◌+◌, ◌<◌, ◌&&◌, Bool, List, All, length, slice_index_or}
-use Rattle.std.specs.List.{count_by}
+use Rattle.std.specs.Prelude.{◌≡◌, ℕ, ◌+◌, ◌<◌, ◌&&◌, Bool, List, All, length, slice_index_or, count_by}
 use Rattle.nr_model.specs.Histories.{Entry, IsLegal, asks, cancels, cancels_key, entries_of, fills, fills_key}
 use Rattle.nr_model.specs.Histories.{is_cancelled, is_done, is_send, sends}
 use Rattle.nr_model.specs.Laws.{pending}

@@ -1,5 +1,5 @@
-use Rattle.nr_map.proofs.Keeping.{eviction_leaves_lem}
+use Rattle.nr_map.proofs.Keeping.{evict_keeps, kept_ledger}
 use Rattle.nr_map.proofs.laws.eviction_leaves.Goals as goal
 
 pub returns : goal.returns
-returns c = eviction_leaves_lem
+returns c key old new answer gone evicts = kept_ledger old new gone (evict_keeps key answer evicts)

@@ -1,5 +1,5 @@
-use Rattle.nr_map.proofs.Ledgers.{handed_out_once_lem}
+use Rattle.nr_map.proofs.Ledgers.{ledger_goes_on}
 use Rattle.nr_map.proofs.laws.handed_out_once.Goals as goal
 
 pub returns : goal.returns
-returns c = handed_out_once_lem
+returns c = ledger_goes_on

@@ -1,5 +1,5 @@
-use Rattle.nr_map.proofs.SlotBounds.{room_for_fills_lem}
+use Rattle.nr_map.proofs.NoSlots.{no_slot_is_rare_lem}
 use Rattle.nr_map.proofs.laws.room_for_fills.Goals as goal
 
 pub returns : goal.returns
-returns c = room_for_fills_lem
+returns c key number rows old new counts room without = (no_slot_is_rare_lem 1 _ counts old new without).2 room

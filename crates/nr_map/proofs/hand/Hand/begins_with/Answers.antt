@@ -1,4 +1,4 @@
-use Rattle.nr_map.proofs.Tagging.{begins}
+use Rattle.nr_map.proofs.FirstRows.{begins}
 use Rattle.nr_map.proofs.hand.Hand.begins_with.Goals as goal
 
 pub returns-then-first-tag-clause-begins : goal.returns-then-first-tag-clause-begins

@@ -1,6 +1,4 @@
-use Rattle.std.proofs.Common.{◌≡◌, ◌+◌, ◌∙◌, arith, drop, set, subst, sym}
-use Rattle.std.specs.Prelude.{ℕ, min}
-use Rattle.std.proofs.lemmas.List.{get_or-drop, length-drop}
+use Rattle.std.proofs.Common.{◌≡◌, ◌+◌, ◌∙◌, arith, drop, set, subst, sym, ℕ, min, get_or-drop, length-drop}
 use Rattle.std.proofs.lemmas.Option.{get_or_from_slice_get}
 use Rattle.nr_map.specs.FirstRows.{ArePutOver}
 use Rattle.nr_map.proofs.FirstRows.{put_next}

@@ -1,7 +1,7 @@
 use Rattle.std.proofs.Common.{subst, sym}
 use Rattle.nr_map.specs.Tagged.{FindsTaggedKept}
 use Rattle.nr_map.specs.declared.tagged.Tagged.{Tagged}
-use Rattle.nr_map.proofs.Tagging.{read_behind}
+use Rattle.nr_map.proofs.FirstRows.{read_behind}
 use Rattle.nr_map.proofs.hand.Hand.find_tagged_kept.Goals as goal
 
 pub returns-in-Rows-clause-finds : goal.returns-in-Rows-clause-finds

@@ -1,4 +1,4 @@
-use Rattle.nr_map.proofs.Tagging.{kept_other, kept_tagged}
+use Rattle.nr_map.proofs.FirstRows.{kept_other, kept_tagged}
 use Rattle.nr_map.proofs.hand.Hand.keep_tagged.Goals as goal
 
 pub returns-then-begins_with-clause-keeps : goal.returns-then-begins_with-clause-keeps

@@ -1,5 +1,4 @@
-use Rattle.std.proofs.Common.{◌<◌, ℕ, List, subst, sym}
-use Rattle.std.specs.List.{All}
+use Rattle.std.proofs.Common.{◌<◌, ℕ, List, subst, sym, All}
 use Rattle.std.proofs.lemmas.List.Elements.{All-map}
 use Rattle.nr_map.specs.LoadsAhead.{LoadsAhead}
 use Rattle.nr_map.specs.declared.wanted.Wanted.{Wanted}

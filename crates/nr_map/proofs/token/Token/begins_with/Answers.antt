@@ -1,5 +1,5 @@
 use Rattle.nr_board.specs.Views.{rows_held, view_of}
-use Rattle.nr_map.proofs.Tagging.{begins}
+use Rattle.nr_map.proofs.FirstRows.{begins}
 use Rattle.nr_map.proofs.token.Token.begins_with.Goals as goal
 
 pub returns-then-first-tag-clause-begins : goal.returns-then-first-tag-clause-begins

@@ -1,6 +1,6 @@
 use Rattle.std.proofs.Common.{ap, subst, sym}
 use Rattle.nr_map.specs.declared.token.Token.{Token}
-use Rattle.nr_map.proofs.Tagging.{has_no_tag, has_tag}
+use Rattle.nr_map.proofs.FirstRows.{has_no_tag, has_tag}
 use Rattle.nr_map.proofs.token.Token.find_tagged.Goals.{then-begins_with, else-begins_with}
 use Rattle.nr_map.proofs.token.Token.find_tagged.Goals as goal
 
