@@ -38,7 +38,8 @@ goes_on_stays capacity id answer old said new goes = grind arith
 miss_goes : (capacity id : ℕ) (old : IdHands) (said : Missed) (new : IdHands) → MissesOnce capacity id old new said
     → Goes old.reader.caller new.reader.caller
 miss_goes capacity id old said new tried =
-    let stays = goes_on_stays capacity id tried.answer (with_id_reader tried.posted tried.reader) said new tried.goes_on in
+    let stays
+    = goes_on_stays capacity id tried.answer (with_id_reader tried.posted tried.reader) said new tried.goes_on in
     let goes = find_goes (λ room rows. ⊥) id tried.posted.reader tt tried.reader tt tried.answer tried.finds in
     grind arith
 
