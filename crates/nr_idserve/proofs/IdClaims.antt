@@ -1,6 +1,6 @@
 -- Each claim that a client is granted is posted, or kept: try by try.
-use Rattle.std.proofs.Common.{◌≡◌, ◌≢◌, ℕ, zero, suc, List, [], ◌∷◌, ◌++◌, Option, None, Some, Ok, Err}
-use Rattle.std.proofs.Common.{refl, sym, ap, ◌∙◌, subst, append_assoc, append-nil, Bool, true, false}
+use Rattle.std.proofs.Common.{rules, arith, ◌≡◌, ◌≢◌, ℕ, zero, suc, List, [], ◌∷◌, ◌++◌, Option, None, Some, Ok, Err}
+use Rattle.std.proofs.Common.{refl, sym, ap, ◌∙◌, append_assoc, append-nil, Bool}
 use Rattle.std.proofs.lemmas.List.{map-append}
 use Rattle.nr_model.specs.declared.rows.Row.{Row}
 use Rattle.nr_ids.specs.declared.requests.Requested.{Requested}
@@ -17,7 +17,6 @@ use Rattle.nr_idmap.specs.declared.finds.NamedWay.{NamedWay}
 use Rattle.nr_idmap.specs.IdFinds.{FindsById, LooksForWay}
 use Rattle.nr_idmap.specs.Keepers.{IdCaller}
 use Rattle.nr_trigger.specs.declared.post.Upquery.{Upquery}
-use Rattle.nr_trigger.specs.Tokens.{PosterSeen}
 use Rattle.nr_idserve.specs.declared.answers.GotId.TheVariants as got
 use Rattle.nr_idserve.specs.declared.answers.Missed.{Missed}
 use Rattle.nr_idserve.specs.declared.answers.Missed.TheVariants as missed
@@ -43,20 +42,13 @@ record Claims (old : Token) (ids : List ℕ) (new : Token) : Type 0 where
 
 claims_of : (old new : Token) (acts : List Event) (ids : List ℕ) → Grows acts old new → claimed_ids acts ≡ ids
     → Claims old ids new
-claims_of old new acts ids grows is =
-    record {
-      number = grows.number;
-      events = grows.rest;
-      seen = grows.seen;
-      claims = ap claimed_ids grows.acts_are ∙ is;
-    }
+claims_of old new acts ids grows is = grind arith
 
 claims_none : (old new : Token) (count : ℕ) → Grows (looks count old.number) old new → Claims old [] new
-claims_none old new count grows =
-    claims_of old new (looks count old.number) [] grows (looks_claim_none count old.number)
+claims_none old new count grows = grind (arith, looks_claim_none)
 
 claims_touch : (touch : Touch) (old new : Token) → Grows (touched old.number touch ∷ []) old new → Claims old [] new
-claims_touch touch old new grows = claims_of old new (touched old.number touch ∷ []) [] grows refl
+claims_touch touch old new grows = grind arith
 
 claims_both : {a b c : Token} {ids more : List ℕ} → Claims a ids b → Claims b more c → Claims a (ids ++ more) c
 claims_both {a} one two = record {
@@ -71,23 +63,10 @@ claims_both {a} one two = record {
 posts_each : (old new : IdHands) (ids : List ℕ) (gain : List Upquery) → Claims old.reader.ids ids new.reader.ids
     → new.poster.posted ≡ old.poster.posted ++ gain
     → ids_kept old.kept ++ ids ≡ ids_posted gain ++ ids_kept new.kept → PostsEach old new
-posts_each old new ids gain claims posted all = record {
-  number = claims.number;
-  events = claims.events;
-  seen = claims.seen;
-  gain = gain;
-  posted = posted;
-  all = ap (λ (l : List ℕ). ids_kept old.kept ++ l) claims.claims ∙ all;
-}
+posts_each old new ids gain claims posted all = grind arith
 
 same_token : (old new : Token) → new ≡ old → Claims old [] new
-same_token old new same =
-    record {
-      number = ap (λ (token : Token). token.number) same;
-      events = [];
-      seen = ap (λ (token : Token). token.seen) same;
-      claims = refl;
-    }
+same_token old new same = grind arith
 
 each_both : (a b c : IdHands) → PostsEach a b → PostsEach b c → PostsEach a c
 each_both a b c one two =
@@ -104,37 +83,30 @@ each_both a b c one two =
 
 each_same : (hands : IdHands) → PostsEach hands hands
 each_same hands =
-    posts_each hands hands []
-    [] (same_token hands.reader.ids hands.reader.ids refl) (sym (append-nil hands.poster.posted))
-    (append-nil (ids_kept hands.kept))
+    record {
+      number = refl;
+      events = [];
+      seen = refl;
+      gain = [];
+      posted = sym (append-nil hands.poster.posted);
+      all = append-nil (ids_kept hands.kept);
+    }
 
 -- a claim that the client had, by a reader whose own steps were granted these
 post_each : (capacity : ℕ) (old new : IdHands) (kept : Option Granted) (ids : List ℕ)
     → Claims old.reader.ids ids new.reader.ids → PostsKept capacity kept old.poster new.kept new.poster
     → ids_kept old.kept ++ ids ≡ ids_kept kept → PostsEach old new
-post_each capacity old new kept ids claims posts all = by_kept kept new.kept refl posts all
-  where
-    by_kept : (before after : Option Granted) → new.kept ≡ after → PostsKept capacity before old.poster after new.poster
-        → ids_kept old.kept ++ ids ≡ ids_kept before → PostsEach old new
-    by_kept None after is posts all =
-        posts_each old new ids [] claims (rw (posts.1, append-nil)) (rw (is, posts.0) all)
-    by_kept (Some claim) None is posts all =
-        posts_each old new ids (record { key = 0; number = claim.id } ∷ []) claims posts.posted (rw is all)
-    by_kept (Some claim) (Some back) is posts all =
-        posts_each old new ids [] claims (rw (posts.1, append-nil)) (rw (is, posts.0) all)
+post_each capacity old new kept ids claims posts all = grind (arith, append-nil)
 
 first_each : (capacity : ℕ) (old new : IdHands) → PostsFirst capacity old new → PostsEach old new
 first_each capacity old new posts =
-    post_each capacity old new old.kept
-    [] (same_token old.reader.ids new.reader.ids (ap (λ (reader : IdCaller). reader.ids) posts.0)) posts.1
-    (append-nil (ids_kept old.kept))
+    let claims = same_token old.reader.ids new.reader.ids (ap (λ (reader : IdCaller). reader.ids) posts.0) in
+    grind (arith, post_each, append-nil)
 
 -- a call of the reader alone
 reader_each : (old : IdHands) (reader : IdCaller) → Claims old.reader.ids [] reader.ids
     → PostsEach old (with_id_reader old reader)
-reader_each old reader claims =
-    posts_each old (with_id_reader old reader) []
-    [] claims (sym (append-nil old.poster.posted)) (append-nil (ids_kept old.kept))
+reader_each old reader claims = grind (arith, append-nil)
 
 look_none : (id : ℕ) (old new : Token) (way : Option ℕ) → LooksUp id old new way → Claims old [] new
 look_none id old new way seen = let all = looks_up id old new way seen in claims_none old new all.0 all.1
@@ -145,8 +117,7 @@ way_none id old new (Some at) seen =
 way_none id old new None seen = look_none id old new None seen
 
 mark_none : (way : ℕ) (marked : Bool) (old new : Token) → SetsMark way marked old new → Claims old [] new
-mark_none way true old new same = same_token old new same
-mark_none way false old new grows = claims_touch _ old new grows
+mark_none way marked old new same = grind arith
 
 find_none : {Room : Type 0} (shows : Room → List Row → Type 0) (id : ℕ) (old : IdCaller) (before : Room)
     (new : IdCaller) (after : Room) (answer : FoundId)
@@ -166,10 +137,8 @@ refused_each : {id : ℕ} {old new : IdHands} (answer : Requested)
     → ((claim : Granted) → answer ≢ requested.Granted claim) → IsRefused id old new answer → PostsEach old new
 refused_each {id} {old} {new} answer none is =
     let all = request_looks id old.reader.ids new.reader.ids answer none is.requests.requests in
-    posts_each old new []
-    [] (claims_none old.reader.ids new.reader.ids all.0 all.1)
-    (ap (λ (seen : PosterSeen). seen.posted) is.poster ∙ sym (append-nil old.poster.posted))
-    (ap (λ (kept : Option Granted). ids_kept kept ++ []) is.requests.none ∙ sym (ap ids_kept is.kept))
+    let claims = claims_none old.reader.ids new.reader.ids all.0 all.1 in
+    grind (arith, posts_each, append-nil)
 
 request_each : (capacity id : ℕ) (old : IdHands) (missed : Missed) (new : IdHands)
     → RequestsOnce capacity id old new missed → PostsEach old new
@@ -193,22 +162,12 @@ request_each capacity id old missed.Worn new requests = refused_each requested.W
 
 goes_on_each : (capacity id : ℕ) (answer : FoundId) (old : IdHands) (missed : Missed) (new : IdHands)
     → GoesOn capacity id answer old new missed → PostsEach old new
-goes_on_each capacity id found.Rows old missed new goes = absurd goes
-goes_on_each capacity id found.Pending old missed new goes = rw goes.1 (each_same old)
-goes_on_each capacity id found.Moved old missed new goes = request_each capacity id old missed new goes
-goes_on_each capacity id found.Absent old missed new goes = request_each capacity id old missed new goes
+goes_on_each capacity id answer old missed new goes = grind (arith, each_same, request_each)
 
 -- TRIES AND GETS
 pub miss_each : (capacity id : ℕ) (old : IdHands) (missed : Missed) (new : IdHands)
     → MissesOnce capacity id old new missed → PostsEach old new
-miss_each capacity id old missed new tried =
-    let mid = with_id_reader tried.posted tried.reader in
-    each_both old tried.posted new (first_each capacity old tried.posted tried.posts)
-    (each_both tried.posted mid new
-    (reader_each tried.posted tried.reader
-    (find_none {Room = Unit {0}} (λ room rows. ⊥) id tried.posted.reader tt tried.reader tt tried.answer
-    tried.finds))
-    (goes_on_each capacity id tried.answer mid missed new tried.goes_on))
+miss_each capacity id old missed new tried = search (rules, each_both, first_each, reader_each, find_none, goes_on_each)
 
 misses_each : (capacity id : ℕ) (old : IdHands) (all : List Missed) (new : IdHands) → MissesAll capacity id old new all
     → PostsEach old new
@@ -221,10 +180,9 @@ module _ {Room : Type 0} (shows : Room → List Row → Type 0) where
   find_each : (capacity id : ℕ) (old : IdHands) (before : Room) (new : IdHands) (after : Room)
       → FindsOnce shows capacity id old before new after → PostsEach old new
   find_each capacity id old before new after tried =
-      each_both old tried.posted new (first_each capacity old tried.posted tried.posts)
-      (subst (λ (hands : IdHands). PostsEach tried.posted hands) (sym tried.rest)
-      (reader_each tried.posted new.reader
-      (find_none shows id tried.posted.reader before new.reader after found.Rows tried.finds)))
+      let none = find_none shows id tried.posted.reader before new.reader after found.Rows tried.finds in
+      let first = first_each capacity old tried.posted tried.posts in
+      rw tried.rest (each_both _ _ _ first (reader_each tried.posted new.reader none))
 
   pub each_claim_is_posted_lem : EachClaimIsPosted shows
   each_claim_is_posted_lem capacity id tries old new before after (Ok got.Rows) gets =

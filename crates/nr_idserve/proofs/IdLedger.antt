@@ -1,7 +1,7 @@
 -- A dataflow's calls one by one, and then in a row: each claim that was taken is answered or kept, and each upquery
 -- that it opened ended or is in hand.
-use Rattle.std.proofs.Common.{◌≡◌, ◌+◌, ℕ, List, [], ◌∷◌, ◌++◌, Option, None, Some, Ok, Err, refl, sym, ap, ◌∙◌, subst}
-use Rattle.std.proofs.Common.{arith, append_assoc, append-nil, inl, inr, ⊎_elim}
+use Rattle.std.proofs.Common.{rules, ◌≡◌, ◌+◌, ℕ, List, [], ◌∷◌, ◌++◌, Option, None, Some, Ok, Err, refl, sym, ap}
+use Rattle.std.proofs.Common.{arith, append_assoc, append-nil, ⊎_elim, ◌∙◌, subst}
 use Rattle.std.proofs.lemmas.Grind.{flat_map-append}
 use Rattle.std.proofs.lemmas.List.{map-append}
 use Rattle.nr_core.proofs.Sums.{total-append}
@@ -9,11 +9,10 @@ use Rattle.nr_core.specs.Sums.{total}
 use Rattle.nr_board.specs.Callers.{Caller}
 use Rattle.nr_ids.specs.declared.admissions.Refused.TheVariants as refused
 use Rattle.nr_idmap.specs.IdLaws.{OneUpquery}
-use Rattle.nr_idmap.specs.Keepers.{Keeper, Owed, Sent, owed_at}
+use Rattle.nr_idmap.specs.Keepers.{Owed, Sent, owed_at}
 use Rattle.nr_idmap.specs.Tags.{tag_of}
-use Rattle.nr_serve.proofs.Filled.{Made, fills_done-append, made_none}
+use Rattle.nr_serve.proofs.Filled.{Made, fills_done-append, made_none, replace_made, update_made}
 use Rattle.nr_trigger.specs.declared.post.Post.{Post}
-use Rattle.nr_trigger.specs.Tokens.{TakerSeen}
 use Rattle.nr_idserve.specs.declared.taking.Taken.{Taken}
 use Rattle.nr_idserve.specs.declared.taking.Taken.TheVariants as taken
 use Rattle.nr_idserve.specs.IdEnds.{FailsGroup, RaisesGroup}
@@ -26,10 +25,9 @@ use Rattle.nr_idserve.specs.IdLedger.DoesById.{Takes, Fills, FillLacks, Fails, F
 use Rattle.nr_idserve.specs.IdLedger.DoesById.{Keeps, Updates, Replaces, Evicts, Tells, Hears, Looks}
 use Rattle.nr_idserve.specs.IdLedger.RunById.{Begins, Then}
 use Rattle.nr_board.specs.WriterAnswers.{ReplacesKey, UpdatesKey}
-use Rattle.nr_serve.proofs.Filled.{replace_made, update_made}
 use Rattle.nr_idserve.proofs.IdMade.{Leaves, LeavesOpen, claims, evict_leaves, fill_leaves, keeper_of, lack_leaves}
 use Rattle.nr_idserve.proofs.IdMade.{making_room_leaves, owes, rests, way_leaves, withdraw_leaves, worn_leaves}
-use Rattle.nr_idserve.proofs.IdOpen.{none_open, one_each_id}
+use Rattle.nr_idserve.proofs.IdMade.{none_open, one_each_id}
 
 answers-append : (l m : List IdEnding) → AreAnswers l → AreAnswers m → AreAnswers (l ++ m)
 answers-append [] m none more = more
@@ -51,14 +49,7 @@ record Books (old new : IdFlowSeen) (held left : List Owed) (answers : List Answ
 untaken : {old new : IdFlowSeen} {held left : List Owed} {ends : List IdEnding}
     → ((count : Owed → ℕ) → total count held ≡ total count (owed_of ends) + total count left)
     → Leaves old new held left ends → Books old new held left [] ends
-untaken {old} each leaves = record {
-  gain = [];
-  taken = ap (λ (taker : TakerSeen). taker.taken) leaves.taker ∙ sym (append-nil old.taker.taken);
-  claims = append-nil (ids_refused old.refused) ∙ sym (ap ids_refused leaves.refused);
-  each = λ count. omega (arith, each count);
-  made = leaves.made;
-  still = leaves.still;
-}
+untaken each leaves = grind (arith, append-nil)
 
 quiet : {old new : IdFlowSeen} {held : List Owed} → Leaves old new held held [] → Books old new held held [] []
 quiet leaves = untaken (λ count. omega arith) leaves
@@ -67,8 +58,7 @@ quiet leaves = untaken (λ count. omega arith) leaves
 spends : {old new : IdFlowSeen} (owed : Owed) (before after : List Owed) {ends : List IdEnding}
     → owed_of ends ≡ owed ∷ [] → Leaves old new (before ++ owed ∷ after) (before ++ after) ends
     → Books old new (before ++ owed ∷ after) (before ++ after) [] ends
-spends owed before after is leaves =
-    untaken (λ count. simp (total-append count) (omega (arith, ap (total count) is))) leaves
+spends owed before after is leaves = grind (arith, untaken, total-append)
 
 -- A TAKE
 -- the claim that comes next: the one that was kept, or one of the queue
@@ -80,20 +70,7 @@ record Comes (old : IdFlowSeen) (id : ℕ) (new : IdFlowSeen) : Type 0 where
   pub writer : new.writer ≡ old.writer
 
 comes : (old new : IdFlowSeen) (id : ℕ) → NextsId old new (Some id) → Comes old id new
-comes old new id (inl kept) = record {
-  gain = [];
-  taken = ap (λ (flow : IdFlowSeen). flow.taker.taken) kept.1 ∙ sym (append-nil old.taker.taken);
-  claims = append-nil (ids_refused old.refused) ∙ ap ids_refused kept.0;
-  none = ap (λ (flow : IdFlowSeen). flow.refused) kept.1;
-  writer = ap (λ (flow : IdFlowSeen). flow.writer) kept.1;
-}
-comes old new id (inr came) = record {
-  gain = came.post ∷ [];
-  taken = came.taken;
-  claims = rw (came.none, came.id_is);
-  none = ap (λ (flow : IdFlowSeen). flow.refused) came.rest ∙ came.none;
-  writer = ap (λ (flow : IdFlowSeen). flow.writer) came.rest;
-}
+comes old new id is = grind (arith, append-nil)
 
 -- a claim that came is answered, or kept
 record Answers (old : IdFlowSeen) (id : ℕ) (answer : Taken) (new : IdFlowSeen) (held : List Owed) : Type 0 where
@@ -131,34 +108,15 @@ module _ (said : Option Say) (held : List Owed) where
 -- an id of 0 is passed
 passes : (old new : IdFlowSeen) (id : ℕ) (answer : Taken) (held : List Owed) → old.refused ≡ None → id ≡ 0
     → answer ≡ taken.Passed 0 → new ≡ old → Answers old id answer new held
-passes old new id answer held none is_zero passed same = record {
-  taker = ap (λ (flow : IdFlowSeen). flow.taker) same;
-  claims = rw (is_zero, passed, same, none);
-  made = made_none _ _ (ap (λ (flow : IdFlowSeen). flow.writer.writer.mine) same);
-  still = λ was. rw (passed, same) was;
-}
+passes old new id answer held none is_zero passed same = grind (arith, made_none)
 
 next_answers : {old mid new : IdFlowSeen} {id : ℕ} (answer : Taken) (held : List Owed) → Comes old id mid
     → Answers mid id answer new held
     → Books old new held (opened_by (answered_by None answer) ++ held) (answered_by None answer) []
-next_answers {new = new} answer held came says = record {
-  gain = came.gain;
-  taken = ap (λ (taker : TakerSeen). taker.taken) says.taker ∙ came.taken;
-  claims = came.claims ∙ says.claims;
-  each = λ count. omega (arith, total-append count (opened_by (answered_by None answer)) held);
-  made = subst (λ (keeper : Keeper). Made keeper.writer new.writer.writer []) came.writer says.made;
-  still = λ was. (says.still (rw came.writer was), tt);
-}
+next_answers answer held came says = grind arith
 
 idle : {old new : IdFlowSeen} {held : List Owed} → NextsId old new None → Books old new held held [] []
-idle {old} none = record {
-  gain = [];
-  taken = ap (λ (flow : IdFlowSeen). flow.taker.taken) none.2 ∙ sym (append-nil old.taker.taken);
-  claims = append-nil (ids_refused old.refused) ∙ sym (ap (λ (flow : IdFlowSeen). ids_refused flow.refused) none.2);
-  each = λ count. omega arith;
-  made = made_none _ _ (ap (λ (flow : IdFlowSeen). flow.writer.writer.mine) none.2);
-  still = λ was. (rw none.2 was, tt);
-}
+idle none = grind (arith, append-nil, made_none)
 
 module _ (said : Option Say) where
   takes_next : (old new : IdFlowSeen) (answer : Taken) (held : List Owed) → TakesNext said old new answer
@@ -174,27 +132,19 @@ module _ (said : Option Say) where
   takes_free : (old new : IdFlowSeen) (answer : Taken) (held : List Owed) → old.kept ≡ None
       → TakesById said old new answer
       → Books old new held (opened_by (answered_by None answer) ++ held) (answered_by None answer) []
-  takes_free old new (taken.Asked sent) held none (inl kept) = absurd (cc (none, kept.0))
-  takes_free old new (taken.Asked sent) held none (inr free) = takes_next old new (taken.Asked sent) held free.1
-  takes_free old new (taken.Passed id) held none takes = takes_next old new (taken.Passed id) held takes.1
-  takes_free old new (taken.Full id) held none takes = takes_next old new (taken.Full id) held takes.1
+  takes_free old new (taken.Asked sent) held none takes = grind (arith, takes_next old new (taken.Asked sent) held)
   takes_free old new taken.Idle held none takes = idle takes.1
+  takes_free old new answer held none takes = takes_next old new answer held takes.1
 
   -- one was kept, and comes first
   kept_first : (old new : IdFlowSeen) (answer : Taken) (sent : Sent) → old.kept ≡ Some sent
       → TakesById said old new answer → new ≡ record old { kept = None }
-  kept_first old new (taken.Asked other) sent is (inl kept) = kept.1
-  kept_first old new (taken.Asked other) sent is (inr free) = cc (is, free.0)
-  kept_first old new (taken.Passed id) sent is takes = cc (is, takes.0)
-  kept_first old new (taken.Full id) sent is takes = cc (is, takes.0)
-  kept_first old new taken.Idle sent is takes = cc (is, takes.0)
+  kept_first old new answer sent is is' = grind arith
 
   takes : (old new : IdFlowSeen) (answer : Taken) (held : List Owed) (kept : Option Sent) → old.kept ≡ kept
       → TakesById said old new answer
       → Books old new held (opened_by (answered_by kept answer) ++ held) (answered_by kept answer) []
-  takes old new answer held None is does = takes_free old new answer held is does
-  takes old new answer held (Some sent) is does =
-      let first = kept_first old new answer sent is does in quiet (rests (ap claims first) (ap keeper_of first))
+  takes old new answer held kept is does = search (rules, takes_free, kept_first, quiet, rests)
 
 -- ANY CALL
 books : {old new : IdFlowSeen} {held left : List Owed} {answers : List Answered} {ends : List IdEnding}
@@ -228,20 +178,17 @@ books (Looks old new held is) = quiet (rests (ap claims is) (ap keeper_of is))
 goes_on : {first old new : IdFlowSeen} {held left : List Owed} {answers more : List Answered}
     {ends others : List IdEnding} → OneUpquery → IsEachOnceById first old held answers ends
     → Books old new held left more others → IsEachOnceById first new left (answers ++ more) (ends ++ others)
-goes_on {new = new} {left = left} {ends = ends} {others = others} law so book =
-    let keeps = book.still so.all_open in record {
-      gain = so.gain ++ book.gain;
-      taken = rw (book.taken, so.taken, append_assoc);
-      claims = rw (map-append, so.claims, append_assoc, book.claims, map-append, append_assoc);
-      each = λ count. simp (flat_map-append, map-append, total-append count)
-          (omega (arith, so.each count, book.each count));
-      answered = answers-append ends others so.answered keeps.1;
-      all_open = keeps.0;
-      one = λ tied id. one_each_id new.writer left id law tied keeps.0;
-      calls = so.calls ++ book.made.calls;
-      mine = rw (book.made.mine, so.mine, append_assoc);
-      fills = rw (fills_done-append, so.fills, book.made.done, flat_map-append);
-    }
+goes_on law so book =
+    grind (
+      arith,
+      append_assoc,
+      map-append,
+      flat_map-append,
+      total-append,
+      answers-append,
+      one_each_id,
+      fills_done-append,
+    )
 
 begun : (first : IdFlowSeen) → ((way : ℕ) → owed_at first.writer way ≡ None) → first.refused ≡ None
     → IsEachOnceById first first [] [] []

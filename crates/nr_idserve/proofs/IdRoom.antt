@@ -1,11 +1,11 @@
 -- Where each way of an id's groups has a name, an id is chosen; and its eviction makes room.
-use Rattle.std.proofs.Common.{◌≡◌, ℕ, Bool, false, true, Option, None, Some, Err, sym, ap, ◌∙◌}
+use Rattle.std.proofs.Common.{rules, arith, ◌≡◌, ℕ, Bool, true, Option, None, Some, Err, ◌∙◌}
 use Rattle.nr_board.specs.declared.answers.Evict.TheVariants as evict
 use Rattle.nr_ids.specs.declared.admissions.Refused.TheVariants as refused
 use Rattle.nr_ids.specs.Events.{name_of}
 use Rattle.nr_ids.specs.Groups.{group_of, group_of_way}
-use Rattle.nr_ids.specs.Looking.{IsFull, group_for}
-use Rattle.nr_ids.specs.Tokens.{Opened, Token}
+use Rattle.nr_ids.specs.Looking.{IsFull}
+use Rattle.nr_ids.specs.Tokens.{Token}
 use Rattle.nr_ids.proofs.Calls.{LeavesNames, at_first, chooses_leave, chosen_group, clerk_looks, leaves_names}
 use Rattle.nr_ids.proofs.Calls.{clerk_names, looks_leave}
 use Rattle.nr_ids.proofs.Admitting.{refusal_looks}
@@ -25,55 +25,29 @@ record HasFree (id : ℕ) (clerk : Token) : Type 0 where
   free : name_of clerk.seen way ≡ 0
 
 has_free_not_full : (id : ℕ) (clerk : Token) → HasFree id clerk → IsFull id clerk → ⊥
-has_free_not_full id clerk has full =
-    let place = at_first clerk.directory.plan id has.way has.group in
-    full place.0 place.1 (ap (λ (way : ℕ). name_of clerk.seen way) place.2 ∙ has.free)
+has_free_not_full id clerk has full = grind (arith, at_first)
 
 -- steps that change no name change nothing of it
 free_later : (id : ℕ) (old new : Token) → LeavesNames old new → HasFree id old → HasFree id new
-free_later id old new leaves has =
-    record {
-      number = leaves.1.number ∙ has.number;
-      way = has.way;
-      group = has.group ∙ ap (λ (directory : Opened). group_of directory.plan id) (sym leaves.1.directory);
-      free = leaves_names old new has.way has.number leaves ∙ has.free;
-    }
+free_later id old new leaves has = grind (arith, leaves_names)
 
 free_before : (id : ℕ) (old new : Token) → old.number ≡ 0 → LeavesNames old new → HasFree id new → HasFree id old
-free_before id old new number leaves has =
-    record {
-      number = number;
-      way = has.way;
-      group = has.group ∙ ap (λ (directory : Opened). group_of directory.plan id) leaves.1.directory;
-      free = sym (leaves_names old new has.way number leaves) ∙ has.free;
-    }
+free_before id old new number leaves has = grind (arith, leaves_names)
 
 -- the choice itself
 chose : (id : ℕ) (old new : Token) (named : Option ℕ) (chooses : ChoosesId id old new named)
     → LeavesNames old chooses.mid × (group_of_way chooses.way ≡ group_of old.directory.plan id)
-chose id old new named chooses = (
-  chooses_leave (group_for old id) chooses.way old chooses.mid chooses.chooses,
-  chosen_group (group_for old id) chooses.way old chooses.mid chooses.chooses,
-)
+chose id old new named chooses = search (rules, chooses_leave, chosen_group)
 
 -- a choice for an id whose groups are full comes to an id
 pub chooses_some : (id : ℕ) (old new : Token) → old.number ≡ 0 → IsFull id old → ChoosesId id old new None → ⊥
 chooses_some id old new number full chooses =
     let first = chose id old new None chooses in
-    let grows = first.0.1 in
+    let names = looks_leave 1 chooses.mid new chooses.names.0 in
+    let free : HasFree id new
+    = record { number = grind arith; way = chooses.way; group = grind arith; free = chooses.names.1 } in
     has_free_not_full id old
-    (free_before id old chooses.mid number first.0
-    (free_before id chooses.mid new (grows.number ∙ number) (looks_leave 1 chooses.mid new chooses.names.0)
-    (record {
-      number = chooses.names.0.number ∙ grows.number ∙ number;
-      way = chooses.way;
-      group =
-          first.1
-          ∙ ap (λ (directory : Opened). group_of directory.plan id)
-          (sym (chooses.names.0.directory ∙ grows.directory));
-      free = chooses.names.1;
-    })))
-    full
+    (free_before id old chooses.mid number first.0 (free_before id chooses.mid new (grind arith) names free)) full
 
 -- an eviction of the id that was chosen leaves its way free
 evicts_chosen : (id victim : ℕ) (old chosen new : Keeper) → old.clerk.number ≡ 0
@@ -84,19 +58,16 @@ evicts_chosen id victim old chosen new number chooses evicts =
     let found = (way_looks victim chosen.clerk evicts.1.mid (Some evicts.0) evicts.1.finds).1 in
     let first = chose id old.clerk chosen.clerk (Some victim) chooses in
     let grows = first.0.1 in
-    let here = chooses.names.0.number ∙ grows.number ∙ number in
+    let here : chosen.clerk.number ≡ 0 = grind arith in
     let named
     = clerk_looks chosen.clerk _ chosen.clerk.number evicts.1.mid chooses.way here found ∙ chooses.names.1.has in
     let same
     = one_way chosen.clerk.directory.plan evicts.1.mid.seen evicts.0 chooses.way victim found.legal chooses.names.2
     evicts.1.finds.1.has named in
     record {
-      number = gone.number ∙ found.number ∙ here;
+      number = grind arith;
       way = chooses.way;
-      group =
-          first.1
-          ∙ ap (λ (directory : Opened). group_of directory.plan id)
-          (sym (gone.directory ∙ found.directory ∙ chooses.names.0.directory ∙ grows.directory));
+      group = grind arith;
       free =
           clerk_names evicts.1.mid _ new.clerk chooses.way (found.number ∙ here) gone
           ∙ cond_same 0 (name_of evicts.1.mid.seen chooses.way) evicts.0 chooses.way same;
@@ -104,8 +75,7 @@ evicts_chosen id victim old chosen new number chooses evicts =
 
 was_evicted : (may_go : Bool) (id : ℕ) (old new : IdFlowSeen) → EvictsIf may_go id old new true
     → EvictsOneId id old new evict.Evicted
-was_evicted true id old new evicts = evicts
-was_evicted false id old new evicts = absurd evicts
+was_evicted may_go id old new evicts = grind arith
 
 -- and so no admission finds the groups full then
 pub room_is_made : (id : ℕ) (say : Say) (old room new : IdFlowSeen) → old.writer.clerk.number ≡ 0

@@ -1,25 +1,22 @@
 -- What a get by id finds of what its client heard was applied.
-use Rattle.std.proofs.Common.{◌≡◌, ◌<◌, ℕ, true, List, [], ◌∷◌, ◌++◌, refl, sym, ap, ◌∙◌, subst, append_assoc}
-use Rattle.std.proofs.Common.{append-nil, inl, inr, ⊎_elim}
+use Rattle.std.proofs.Common.{arith, ◌≡◌, ◌<◌, ℕ, true, List, [], ◌∷◌, ◌++◌, sym, ◌∙◌, subst, append_assoc, append-nil}
+use Rattle.std.proofs.Common.{inl, inr, ⊎_elim}
 use Rattle.nr_model.specs.declared.rows.Row.{Row}
 use Rattle.nr_model.specs.Histories.{Entry}
 use Rattle.nr_core.specs.Puts.{puts_at}
-use Rattle.nr_board.specs.Callers.{Caller, Grows}
+use Rattle.nr_board.specs.Callers.{Caller}
 use Rattle.nr_board.specs.Rule.{StartsWith}
 use Rattle.nr_ids.specs.Events.{name_of}
 use Rattle.nr_idmap.specs.declared.finds.FoundId.{FoundId}
-use Rattle.nr_idmap.specs.declared.finds.FoundId.TheVariants as found
-use Rattle.nr_idmap.specs.IdFinds.{FindsById, FindsByName, with_line}
+use Rattle.nr_idmap.specs.IdFinds.{FindsById}
 use Rattle.nr_idmap.specs.IdHeard.{FindsIdHeard, HeardIdBefore}
 use Rattle.nr_idmap.specs.IdNotes.{HearsIdNote, IdKnown, with_steps_of_split}
 use Rattle.nr_idmap.specs.Keepers.{IdCaller}
 use Rattle.nr_idserve.specs.declared.answers.GotId.{GotId}
-use Rattle.nr_idserve.specs.declared.answers.GotId.TheVariants as got
 use Rattle.nr_idserve.specs.declared.answers.Missed.{Missed}
-use Rattle.nr_idserve.specs.declared.answers.Missed.TheVariants as missed
 use Rattle.nr_idserve.specs.declared.hands.IdHands.{IdHands}
 use Rattle.nr_idserve.specs.IdApplied.{EachFind, GetsIdWhatWasApplied, IsSince, LastFind, TellsOfPut}
-use Rattle.nr_idserve.specs.IdGets.{EndsAfter, FindsNothing, GoesOn, MissesAll, MissesOnce, RequestsOnce}
+use Rattle.nr_idserve.specs.IdGets.{EndsAfter, FindsNothing, GoesOn, MissesAll, MissesOnce}
 use Rattle.nr_idserve.specs.IdHands.{with_id_reader}
 use Rattle.nr_idserve.proofs.IdClaims.{miss_each}
 
@@ -28,60 +25,23 @@ record Goes (old new : Caller) : Type 0 where
   table : new.table ≡ old.table
   seen : StartsWith new.seen old.seen
 
-stays : (old new : Caller) → new ≡ old → Goes old new
-stays old new same =
-    subst (λ (caller : Caller). Goes old caller) (sym same)
-    (record { table = refl; seen = record { rest = []; is = sym (append-nil old.seen) } })
-
-grows : (steps : ℕ) (old : Caller) (entries : List Entry) (new : Caller) → Grows steps entries old new → Goes old new
-grows steps old entries new made =
-    record { table = made.table; seen = record { rest = made.between ++ entries; is = rw (made.seen, append_assoc) } }
-
-named_goes : {Room : Type 0} (shows : Room → List Row → Type 0) (id : ℕ) (old : IdCaller) (before : Room)
-    (new : IdCaller) (after : Room) (answer : FoundId)
-    → FindsByName shows id old before new after answer
-    → Goes old.caller new.caller
-named_goes shows id old before new after found.Rows finds = grows _ old.caller _ new.caller finds.3.1.gains
-named_goes shows id old before new after found.Pending finds = grows _ old.caller _ new.caller finds.2.gains
-named_goes shows id old before new after found.Moved finds = grows _ old.caller _ new.caller finds.2.1.gains
-named_goes shows id old before new after found.Absent finds = stays old.caller new.caller finds.1
-
 find_goes : {Room : Type 0} (shows : Room → List Row → Type 0) (id : ℕ) (old : IdCaller) (before : Room)
     (new : IdCaller) (after : Room) (answer : FoundId)
     → FindsById shows id old before new after answer
     → Goes old.caller new.caller
-find_goes shows id old before new after answer finds =
-    let goes = named_goes shows id (with_line id finds.0 old) before new after answer finds.1 in
-    record { table = goes.table; seen = goes.seen }
-
-request_stays : (capacity id : ℕ) (old : IdHands) (said : Missed) (new : IdHands)
-    → RequestsOnce capacity id old new said → new.reader.caller ≡ old.reader.caller
-request_stays capacity id old missed.Pending new requests = absurd requests
-request_stays capacity id old missed.NotRequested new requests =
-    ap (λ (hands : IdHands). hands.reader.caller) requests.2
-request_stays capacity id old missed.Claimed new requests = requests.requests.map
-request_stays capacity id old missed.Named new requests = requests.1.requests.map
-request_stays capacity id old missed.Busy new requests = requests.requests.map
-request_stays capacity id old missed.Outrun new requests = requests.requests.map
-request_stays capacity id old missed.Worn new requests = requests.requests.map
+find_goes shows id old before new after answer finds = grind (arith, append_assoc, append-nil)
 
 goes_on_stays : (capacity id : ℕ) (answer : FoundId) (old : IdHands) (said : Missed) (new : IdHands)
     → GoesOn capacity id answer old new said → new.reader.caller ≡ old.reader.caller
-goes_on_stays capacity id found.Rows old said new goes = absurd goes
-goes_on_stays capacity id found.Pending old said new goes = ap (λ (hands : IdHands). hands.reader.caller) goes.1
-goes_on_stays capacity id found.Moved old said new goes = request_stays capacity id old said new goes
-goes_on_stays capacity id found.Absent old said new goes = request_stays capacity id old said new goes
+goes_on_stays capacity id answer old said new goes = grind arith
 
 miss_goes : (capacity id : ℕ) (old : IdHands) (said : Missed) (new : IdHands) → MissesOnce capacity id old new said
     → Goes old.reader.caller new.reader.caller
 miss_goes capacity id old said new tried =
-    let found
-    = find_goes {Room = Unit {0}} (λ room rows. ⊥) id tried.posted.reader tt tried.reader tt tried.answer
-    tried.finds in
-    let first = subst (λ (reader : IdCaller). Goes reader.caller tried.reader.caller) tried.posts.0 found in
-    subst (λ (caller : Caller). Goes old.reader.caller caller)
-    (sym (goes_on_stays capacity id tried.answer (with_id_reader tried.posted tried.reader) said new tried.goes_on))
-    first
+    let stays
+    = goes_on_stays capacity id tried.answer (with_id_reader tried.posted tried.reader) said new tried.goes_on in
+    let goes = find_goes (λ room rows. ⊥) id tried.posted.reader tt tried.reader tt tried.answer tried.finds in
+    grind arith
 
 -- A TRY, AND SEVERAL
 since_both : {a b c : IdCaller} → IsSince a b → IsSince b c → IsSince a c
@@ -95,17 +55,13 @@ miss_since : (capacity id : ℕ) (old : IdHands) (said : Missed) (new : IdHands)
     → IsSince old.reader new.reader
 miss_since capacity id old said new tried =
     let goes = miss_goes capacity id old said new tried in
-    let each = miss_each capacity id old said new tried in
-    record { table = goes.table; seen = goes.seen; ids = (each.events, each.seen) }
+    let each = miss_each capacity id old said new tried in grind arith
 
 -- a find that found no rows, of whatever room
 as_find : {Room : Type 0} (shows : Room → List Row → Type 0) (id : ℕ) (old : IdCaller) (room : Room) (new : IdCaller)
     (answer : FoundId)
     → FindsNothing id old new answer → FindsById shows id old room new room answer
-as_find shows id old room new found.Rows (word, finds) = absurd finds.5
-as_find shows id old room new found.Pending (word, finds) = (word, (finds.0, finds.1, finds.2, refl))
-as_find shows id old room new found.Moved (word, finds) = (word, (finds.0, finds.1, finds.2, finds.3, refl))
-as_find shows id old room new found.Absent (word, finds) = (word, (finds.0, finds.1, refl))
+as_find shows id old room new answer is = grind arith
 
 module _ {Room : Type 0} (shows : Room → List Row → Type 0) (law : FindsIdHeard shows) (old heard : IdCaller)
     (note : IdKnown) (hears : HearsIdNote note (with_steps_of_split old) heard)
@@ -158,11 +114,7 @@ module _ {Room : Type 0} (shows : Room → List Row → Type 0) (law : FindsIdHe
         (TellsOfPut shows (record { id = id; way = way; old = old; written = before ++ put ∷ []; since = since })
         note after)
         (record { capacity = capacity; id = id; tries = tries }) missed between room new after answer ends
-    last_tells tries missed got.Rows between new after ends later =
-        let tried = ends.1 in
-        find_tells tried.posted.reader new.reader room after found.Rows
-        (subst (λ (reader : IdCaller). IsSince heard reader) (sym tried.posts.0) later) tried.finds
-    last_tells tries missed got.GaveUp between new after ends later = tt
+    last_tells tries missed answer between new after ends later = grind (arith, find_tells)
 
 pub gets_what_was_applied_lem : (reached : ℕ → IdKnown → Type 0) {Room : Type 0} (shows : Room → List Row → Type 0)
     → FindsIdHeard shows → GetsIdWhatWasApplied reached shows

@@ -1,22 +1,42 @@
--- The sleeps of a get by id, put together over its tries.
-use Rattle.std.proofs.Common.{◌≡◌, ℕ, ◌+◌, ◌-◌, ◌<◌, ◌⊎◌, Option, Ok, Err, refl, subst, arith, inl, inr, slice_index}
-use Rattle.std.proofs.Common.{Result, List}
+-- The tries of a get by id: a try from its calls, what several come to, and the sleeps between them.
 use Rattle.std.specs.Result.{IsErrAnd}
+use Rattle.std.proofs.Common.{◌≡◌, ◌+◌, ℕ, List, [], ◌∷◌, refl, arith, ◌-◌, ◌<◌, ◌⊎◌, Option, Ok, Err, subst, inr}
+use Rattle.std.proofs.Common.{slice_index, Result}
 use Rattle.nr_model.specs.declared.rows.Row.{Row}
+use Rattle.nr_idserve.specs.declared.answers.Missed.{Missed}
+use Rattle.nr_idserve.specs.declared.hands.IdHands.{IdHands}
+use Rattle.nr_idserve.specs.IdHands.{PostsFirst, with_id_reader}
+use Rattle.nr_idserve.specs.IdGets.{GoesOn, MissesOnce, MissesTimes, AwaitsRaise, FindsOnce, GetsIdInTime, Getting}
+use Rattle.nr_idserve.specs.IdGets.{IsAwaited}
 use Rattle.nr_ids.specs.Tokens.{Granted}
+use Rattle.nr_idserve.specs.declared.answers.GotId.{GotId}
+use Rattle.nr_idserve.specs.declared.answers.GotId.TheVariants as got
+use Rattle.nr_idserve.specs.IdWaits.{GetsIdSleeping, sleeps, sleeps_after}
+use Rattle.nr_idmap.specs.declared.finds.FoundId.{FoundId}
+use Rattle.nr_idmap.specs.IdFinds.{FindsById}
+use Rattle.nr_idmap.specs.Keepers.{IdCaller}
 use Rattle.nr_serve.specs.Counts.{GuestSeen, IsLaterOf, group_at}
 use Rattle.nr_serve.specs.Waits.{SawRaises, SleepsIf, unless_kept}
 use Rattle.nr_serve.specs.declared.sleepers.TooLate.{TooLate}
 use Rattle.nr_serve.proofs.Waiting.{saw_later, saw_more}
-use Rattle.nr_idserve.specs.declared.answers.GotId.{GotId}
-use Rattle.nr_idserve.specs.declared.answers.GotId.TheVariants as got
-use Rattle.nr_idserve.specs.declared.answers.Missed.{Missed}
-use Rattle.nr_idserve.specs.declared.answers.Missed.TheVariants.{Pending, NotRequested, Claimed, Named, Busy, Outrun}
-use Rattle.nr_idserve.specs.declared.answers.Missed.TheVariants.{Worn}
-use Rattle.nr_idserve.specs.declared.hands.IdHands.{IdHands}
-use Rattle.nr_idserve.specs.IdGets.{AwaitsRaise, FindsOnce, GetsIdInTime, Getting, IsAwaited, MissesOnce, MissesTimes}
-use Rattle.nr_idserve.specs.IdWaits.{GetsIdSleeping, sleeps, sleeps_after}
-use Rattle.nr_idserve.proofs.IdGetting.{missed_more, missed_none}
+
+abbrev pub missed_none : (capacity id : ℕ) (hands : IdHands) → MissesTimes capacity id 0 hands hands
+missed_none capacity id hands = record { each = []; counted = refl; all = refl }
+
+abbrev pub missed_more : {capacity id count : ℕ} {old mid new : IdHands} {missed : Missed}
+    → MissesTimes capacity id count old mid → MissesOnce capacity id mid new missed
+    → MissesTimes capacity id (count + 1) old new
+missed_more {mid = mid} {missed = missed} before once =
+    record { each = missed ∷ before.each; counted = omega (arith, before.counted); all = (mid, before.all, once) }
+
+module _ {Room : Type 0} (shows : Room → List Row → Type 0) (capacity id : ℕ) (old posted : IdHands)
+    (reader : IdCaller) (new : IdHands) (missed : Missed) (before after : Room) where
+  -- with the request that followed
+  pub missed_by : (answer : FoundId) → PostsFirst capacity old posted
+      → FindsById shows id posted.reader before reader after answer
+      → GoesOn capacity id answer (with_id_reader posted reader) new missed
+      → MissesOnce capacity id old new missed × (after ≡ before)
+  missed_by answer posts finds goes = grind arith
 
 -- that many tries of a get found no rows, and each that left another slept where it had to
 pub record Slept (capacity id n tries group : ℕ) (a b : IdHands) (g h : GuestSeen) : Type 0 where
@@ -26,13 +46,7 @@ pub record Slept (capacity id n tries group : ℕ) (a b : IdHands) (g h : GuestS
 -- the sleeps after a try are none, or one where the group is to be raised and no claim is kept
 sleeps_by : (missed : Missed) (kept : Option Granted)
     → (sleeps_after missed kept ≡ 0) ⊎ ((sleeps_after missed kept ≡ unless_kept kept) × IsAwaited missed)
-sleeps_by Pending kept = inr (refl, tt)
-sleeps_by NotRequested kept = inl refl
-sleeps_by Claimed kept = inr (refl, tt)
-sleeps_by Named kept = inl refl
-sleeps_by Busy kept = inr (refl, tt)
-sleeps_by Outrun kept = inr (refl, tt)
-sleeps_by Worn kept = inl refl
+sleeps_by missed kept = grind arith
 
 pub slept_none : (capacity id tries group : ℕ) (a : IdHands) (g : GuestSeen)
     → Slept capacity id 0 tries group a a g g
@@ -90,5 +104,4 @@ module _ {Room : Type 0} (shows : Room → List Row → Type 0) {capacity id n t
 pub sleeps_in_time : {Room : Type 0} (shows : Room → List Row → Type 0) (get : Getting) (group : ℕ) (a b : IdHands)
     (before rows : Room) (g h : GuestSeen) (ended : Result GotId TooLate)
     → GetsIdSleeping shows get group a before g b rows h ended → GetsIdInTime shows get a before b rows ended
-sleeps_in_time shows get group a b before rows g h (Ok got) gets = gets.0
-sleeps_in_time shows get group a b before rows g h (Err late) gets = gets.0
+sleeps_in_time shows get group a b before rows g h ended gets = grind arith

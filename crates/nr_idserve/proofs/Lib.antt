@@ -1,8 +1,5 @@
-pub mod IdGetting
 pub mod IdWaiting
-pub mod IdOpen
 pub mod IdMade
-pub mod IdTurning
 pub mod IdLedger
 pub mod IdClaims
 pub mod IdTelling

@@ -17,9 +17,8 @@ use Rattle.nr_idserve.specs.IdFlows.{IdFlowSeen, group_in}
 
 -- what comes back is the upquery that was given
 abbrev pub IsOfSame : Sent → Withdrawn → Type 0
-IsOfSame sent withdrawn.Done = Unit {0}
-IsOfSame sent withdrawn.Closed = Unit {0}
 IsOfSame sent (withdrawn.Worn back) = back ≡ sent
+IsOfSame sent _ = Unit {0}
 
 -- the upquery's id was to be filled with these rows, which was answered so, and the lobby raised, or not
 pub record FillsIdBy (sent : Sent) (rows : List Row) (old new : IdFlowSeen) (answer : Result (Unit {0}) Unfilled) : Type

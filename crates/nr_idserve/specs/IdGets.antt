@@ -71,13 +71,10 @@ pub record MissesOnce (capacity id : ℕ) (old new : IdHands) (missed : Missed) 
 
 -- the dataflow is to raise the id's group, or has raised it since
 abbrev pub IsAwaited : Missed → Type 0
-IsAwaited Pending = Unit {0}
 IsAwaited NotRequested = ⊥
-IsAwaited Claimed = Unit {0}
 IsAwaited Named = ⊥
-IsAwaited Busy = Unit {0}
-IsAwaited Outrun = Unit {0}
 IsAwaited Worn = ⊥
+IsAwaited _ = Unit {0}
 
 -- one try was made between these two, it found no rows, the group is to be raised, and no claim is kept
 pub record AwaitsRaise (capacity id : ℕ) (old new : IdHands) (missed : Missed) : Type 0 where

@@ -18,7 +18,7 @@ use Rattle.nr_idmap.specs.IdWrites.{CallsWay, EvictsId}
 use Rattle.nr_idmap.specs.Keepers.{IsTied, Keeper, Owed, OwesSame, Sent, owed_at}
 use Rattle.nr_idmap.specs.Tags.{tag_of}
 use Rattle.nr_serve.specs.declared.turns.Spent.{Spent}
-use Rattle.nr_serve.specs.Ledger.{Failed, Fate, Filled, Filling, Passed, fate_of, fills_done}
+use Rattle.nr_serve.specs.Ledger.{Fate, Filled, Filling, Passed, fate_of, fills_done}
 use Rattle.nr_trigger.specs.declared.post.Post.{Post}
 use Rattle.nr_idserve.specs.declared.taking.Taken.{Taken}
 use Rattle.nr_idserve.specs.declared.taking.Taken.TheVariants as taken
@@ -67,9 +67,8 @@ owed_of = map (λ ending. ending.owed)
 
 -- none of them passed
 abbrev pub IsAnswer : Fate → Type 0
-IsAnswer (Filled rows) = Unit {0}
 IsAnswer Passed = ⊥
-IsAnswer Failed = Unit {0}
+IsAnswer _ = Unit {0}
 
 abbrev pub AreAnswers : List IdEnding → Type 0
 AreAnswers [] = Unit {0}
@@ -78,8 +77,7 @@ AreAnswers (ending ∷ endings) = IsAnswer ending.fate × AreAnswers endings
 -- the fills of a map's keys by which they ended so
 abbrev pub filled_by : Owed → Fate → List Filling
 filled_by owed (Filled rows) = record { key = owed.way; number = owed.number; rows = tag_of owed.id ∷ rows } ∷ []
-filled_by owed Passed = []
-filled_by owed Failed = []
+filled_by owed _ = []
 
 abbrev pub fills_by : List IdEnding → List Filling
 fills_by = flat_map (λ ending. filled_by ending.owed ending.fate)
@@ -111,9 +109,7 @@ pub record AreTheOpen (keeper : Keeper) (held : List Owed) : Type 0 where
 abbrev pub answered_by : Option Sent → Taken → List Answered
 answered_by None (taken.Asked sent) = Opened sent.owed ∷ []
 answered_by None (taken.Passed id) = Needless id ∷ []
-answered_by None (taken.Full id) = []
-answered_by None taken.Idle = []
-answered_by (Some kept) answer = []
+answered_by kept answer = []
 
 -- A call of the dataflow, by what its contract says (a turn makes such calls in a row): with the upqueries in hand
 -- before it, which are those that it keeps and those that are under way, as nobody can drop or copy one; the claims

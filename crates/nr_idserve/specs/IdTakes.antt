@@ -96,9 +96,8 @@ AdmitsMakingRoom id said old new answer = (AdmitsInRoom id old new answer × (sa
 
 -- the claim needs no upquery
 abbrev pub IsNeedless : Refused → Type 0
-IsNeedless refused.NoClaim = Unit {0}
-IsNeedless (refused.Named way) = Unit {0}
 IsNeedless refused.Full = ⊥
+IsNeedless _ = Unit {0}
 
 abbrev pub AdmitsNext : ℕ → Option Say → IdFlowSeen → IdFlowSeen → Taken → Type 0
 AdmitsNext id said old new (taken.Asked sent) = AdmitsMakingRoom id said old new (Ok sent)
@@ -112,9 +111,7 @@ AdmitsNext id said old new taken.Idle = ⊥
 -- an upquery that is asked is of that map
 abbrev pub IsAskedOf : IdTable → Taken → Type 0
 IsAskedOf map (taken.Asked sent) = sent.table ≡ map
-IsAskedOf map (taken.Passed id) = Unit {0}
-IsAskedOf map (taken.Full id) = Unit {0}
-IsAskedOf map taken.Idle = Unit {0}
+IsAskedOf map _ = Unit {0}
 
 -- TAKES
 -- what comes next is admitted; an id of 0, which no claim has, is passed
@@ -130,6 +127,5 @@ TakesKept said old new sent = (old.kept ≡ Some sent) × (new ≡ record old { 
 abbrev pub TakesById : Option Say → IdFlowSeen → IdFlowSeen → Taken → Type 0
 TakesById said old new (taken.Asked sent) =
     TakesKept said old new sent ⊎ ((old.kept ≡ None) × TakesNext said old new (taken.Asked sent))
-TakesById said old new (taken.Passed id) = (old.kept ≡ None) × TakesNext said old new (taken.Passed id)
-TakesById said old new (taken.Full id) = (old.kept ≡ None) × TakesNext said old new (taken.Full id)
 TakesById said old new taken.Idle = (old.kept ≡ None) × NextsId old new None × (said ≡ None)
+TakesById said old new answer = (old.kept ≡ None) × TakesNext said old new answer

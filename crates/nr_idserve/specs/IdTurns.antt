@@ -20,25 +20,18 @@ Keeps sent old new = new ≡ record old { kept = Some sent }
 
 -- an upquery is given these rows, and kept where there is no slot
 abbrev pub FillsOrKeeps : Sent → List Row → IdFlowSeen → IdFlowSeen → IdTurn → Type 0
-FillsOrKeeps sent rows old new turn.Idle = ⊥
 FillsOrKeeps sent rows old new (turn.Filled id) = (id ≡ sent.owed.id) × FillsOneId sent rows old new (Ok spent.Filled)
 FillsOrKeeps sent rows old new (turn.Passed id) = (id ≡ sent.owed.id) × FillsOneId sent rows old new (Ok spent.Passed)
-FillsOrKeeps sent rows old new (turn.Failed id) = ⊥
-FillsOrKeeps sent rows old new (turn.Full id) = ⊥
 FillsOrKeeps sent rows old new (turn.Kept counts) =
     (back : IdFlowSeen) × FillsOneId sent rows old back (Err (sent, counts)) × Keeps sent back new
-FillsOrKeeps sent rows old new (turn.Worn id) = ⊥
+FillsOrKeeps sent rows old new _ = ⊥
 
 -- its rows can't be had, and it is kept where it can't be withdrawn
 abbrev pub FailsOrKeeps : Sent → IdFlowSeen → IdFlowSeen → IdTurn → Type 0
-FailsOrKeeps sent old new turn.Idle = ⊥
-FailsOrKeeps sent old new (turn.Filled id) = ⊥
-FailsOrKeeps sent old new (turn.Passed id) = ⊥
 FailsOrKeeps sent old new (turn.Failed id) = (id ≡ sent.owed.id) × (said : Spent) × FailsOneId sent old new (Ok said)
-FailsOrKeeps sent old new (turn.Full id) = ⊥
-FailsOrKeeps sent old new (turn.Kept counts) = ⊥
 FailsOrKeeps sent old new (turn.Worn id) =
     (id ≡ sent.owed.id) × (back : IdFlowSeen) × FailsOneId sent old back (Err sent) × Keeps sent back new
+FailsOrKeeps sent old new _ = ⊥
 
 -- the dataflow sleeps where its turn was idle
 abbrev pub SleepsIfIdle : IdTurn → IdFlowSeen → IdFlowSeen → Type 0

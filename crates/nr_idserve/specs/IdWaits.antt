@@ -8,20 +8,16 @@ use Rattle.nr_serve.specs.Counts.{GuestSeen}
 use Rattle.nr_serve.specs.Waits.{SawRaises, if_left, unless_kept}
 use Rattle.nr_idserve.specs.declared.answers.GotId.{GotId}
 use Rattle.nr_idserve.specs.declared.answers.Missed.{Missed}
-use Rattle.nr_idserve.specs.declared.answers.Missed.TheVariants.{Pending, NotRequested, Claimed, Named, Busy, Outrun}
-use Rattle.nr_idserve.specs.declared.answers.Missed.TheVariants.{Worn}
+use Rattle.nr_idserve.specs.declared.answers.Missed.TheVariants.{Named, NotRequested, Worn}
 use Rattle.nr_idserve.specs.declared.hands.IdHands.{IdHands}
 use Rattle.nr_idserve.specs.IdGets.{EndsIdLate, GetsId, Getting, MissesAll}
 
 -- the sleeps after one try that found no rows: one where the dataflow is to raise the group, and no claim is kept
 abbrev pub sleeps_after : Missed → Option Granted → ℕ
-sleeps_after Pending kept = unless_kept kept
 sleeps_after NotRequested kept = 0
-sleeps_after Claimed kept = unless_kept kept
 sleeps_after Named kept = 0
-sleeps_after Busy kept = unless_kept kept
-sleeps_after Outrun kept = unless_kept kept
 sleeps_after Worn kept = 0
+sleeps_after _ kept = unless_kept kept
 
 -- the sleeps of several tries, of a get of so many, each but after its last
 abbrev pub sleeps : (capacity id tries : ℕ) (old new : IdHands) (each : List Missed)

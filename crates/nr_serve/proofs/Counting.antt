@@ -1,7 +1,7 @@
 -- Each step on the counts of a lobby keeps their rule.
-use Rattle.std.proofs.Common.{◌≡◌, ◌≢◌, ℕ, ◌+◌, ◌<◌, ◌≤◌, max, eqb, zero, suc, List, [], ◌∷◌, ◌++◌}
-use Rattle.std.proofs.Common.{set, slice_index, refl, sym, ◌∙◌, subst, arith, ⊎_elim, append-nil, length-set}
-use Rattle.std.proofs.Common.{replicate, eq-eqb, ne_eqb, le_refl, le_trans, zero-le}
+use Rattle.std.proofs.Common.{◌≡◌, ◌≢◌, ℕ, ◌+◌, ◌<◌, ◌≤◌, max, eqb, zero, suc, List, [], ◌∷◌, ◌++◌, set, slice_index}
+use Rattle.std.proofs.Common.{refl, sym, subst, arith, ⊎_elim, append-nil, length-set, replicate, eq-eqb, ne_eqb}
+use Rattle.std.proofs.Common.{le_refl, le_trans, zero-le}
 use Rattle.std.proofs.lemmas.List.{length-replicate, get_or-set_same, get_or-set_other}
 use mathlib.Core.Logic.{dite}
 use mathlib.Core.Option.{none, some, some-injective, some-ne-none}
@@ -11,7 +11,7 @@ use prog.Atomic.{either}
 use Rattle.atomic_table.specs.Table.{Allows, Enters, Me, State, keeps, step, stepped, opening}
 use Rattle.atomic_table.proofs.Lists.{at_set, at_snoc}
 use Rattle.nr_core.proofs.Sums.{only-other, only-same, total-append, total-set}
-use Rattle.nr_core.specs.Sums.{only, total}
+use Rattle.nr_core.specs.Sums.{total}
 use Rattle.nr_serve.specs.Hands.{capped, last_count}
 use Rattle.nr_serve.specs.Counts.{AreCounts, IsLater, Visit, closed_at, has_closed, has_read_count, has_raised}
 use Rattle.nr_serve.specs.Counts.{how_often, new_guest}
@@ -47,16 +47,12 @@ module _ (state : S) (are : AreCounts state) (id : ℕ) (me : Me (Unit {0}) Visi
     elsewhere place other = get_or-set_other state.words i place n 0 other
 
     later : IsLater state.words words
-    later place =
-        dite (ℕ_discrete place i) (λ same. rw same (omega (arith, here, up)))
-        (λ other. omega (arith, elsewhere place other))
+    later place = grind (arith, here, elsewhere)
 
     more_raised : (place : ℕ)
         → total (raised_at place) (set state.views id visit)
         ≡ total (raised_at place) state.views + how_often place more
-    more_raised place =
-        omega
-        (arith, total-set (raised_at place) state.views id me.0 visit there, total-append (only place) me.0.raised more)
+    more_raised place = grind (arith, total-set, total-append)
 
     more_closed : total closes_of (set state.views id visit) ≡ total closes_of state.views + closings
     more_closed = omega (arith, total-set closes_of state.views id me.0 visit there)
@@ -66,26 +62,8 @@ module _ (state : S) (are : AreCounts state) (id : ℕ) (me : Me (Unit {0}) Visi
         → (i ≢ closed_at → n ≡ last_count → 0 < slice_index state.words closed_at)
         → (i ≡ closed_at → 0 < n → 0 < total closes_of state.views + closings)
         → AreCounts (stepped state i n id me.1 visit keeps)
-    still_counts counts none_else closes closed_by = record {
-      size = length-set state.words i n ∙ are.size;
-      counted = λ place count. dite (ℕ_discrete place i)
-          (λ same. rw same (omega (arith, here, counts (λ closed. count (same ∙ closed)), more_raised i)))
-          (λ other. omega
-          (arith, elsewhere place other, are.counted place count, none_else place other count, more_raised place));
-      last = λ place count at_last.
-          let closed : 0 < slice_index state.words closed_at
-          = dite (ℕ_discrete place i)
-          (λ same. closes (λ closed. count (same ∙ closed)) (omega (arith, here, rw same at at_last)))
-          (λ other. are.last place count (omega (arith, elsewhere place other, at_last))) in
-          omega (arith, closed, later closed_at);
-      closed = λ now. dite (ℕ_discrete closed_at i)
-          (λ same. omega (arith, closed_by (sym same) (omega (arith, here, rw same at now)), more_closed))
-          (λ other. omega (arith, are.closed (omega (arith, elsewhere closed_at other, now)), more_closed));
-      seen = λ other known at. ⊎_elim
-          (λ mine. subst (λ (v : Visit). IsLater v.seen words) mine.1 (λ place. le_refl (slice_index words place)))
-          (λ was. λ place. le_trans (are.seen other known was.1 place) (later place))
-          (at_set state.views id other visit known at);
-    }
+    still_counts counts none_else closes closed_by =
+        grind (arith, length-set, here, more_raised, elsewhere, later, more_closed, le_refl, le_trans, at_set)
 
     sees_more : IsLater me.0.seen words
     sees_more place = le_trans (are.seen id me.0 there place) (later place)

@@ -1,18 +1,14 @@
 -- Which fills were done by a call of the writer's.
-use Rattle.std.proofs.Common.{◌≡◌, ℕ, List, [], ◌∷◌, ◌++◌, Result, Ok, Err, refl, sym, ◌∙◌, append_assoc, append-nil}
+use Rattle.std.proofs.Common.{arith, ◌≡◌, ℕ, List, [], ◌∷◌, ◌++◌, Result, Ok, Err, refl, sym, ◌∙◌, append_assoc}
+use Rattle.std.proofs.Common.{append-nil}
 use Rattle.nr_model.specs.declared.batches.Delta.{Delta}
 use Rattle.nr_model.specs.declared.rows.Row.{Row}
 use Rattle.nr_model.specs.Histories.{Entry}
 use Rattle.nr_board.specs.declared.answers.Cancel.{Cancel}
-use Rattle.nr_board.specs.declared.answers.Cancel.TheVariants as cancel
 use Rattle.nr_board.specs.declared.answers.Evict.{Evict}
-use Rattle.nr_board.specs.declared.answers.Evict.TheVariants as evict
 use Rattle.nr_board.specs.declared.answers.FillFault.{FillFault}
-use Rattle.nr_board.specs.declared.answers.FillFault.TheVariants as fill
 use Rattle.nr_board.specs.declared.answers.ReplaceFault.{ReplaceFault}
-use Rattle.nr_board.specs.declared.answers.ReplaceFault.TheVariants as replace
 use Rattle.nr_board.specs.declared.answers.UpdateFault.{UpdateFault}
-use Rattle.nr_board.specs.declared.answers.UpdateFault.TheVariants as update
 use Rattle.nr_board.specs.Callers.{Caller, Grows}
 use Rattle.nr_board.specs.WriterAnswers.{CancelsKey, EvictsKey, FillsKey, ReplacesKey, UpdatesKey}
 use Rattle.nr_serve.specs.Ledger.{Filling, fills_done}
@@ -36,26 +32,17 @@ made steps a b calls fills grows done = record { calls = calls; mine = grows.min
 
 pub update_made : (bound key : ℕ) (batch : List Delta) (a b : Caller) (answer : Result (Unit {0}) UpdateFault)
     → UpdatesKey bound key batch a b answer → Made a b []
-update_made bound key batch a b (Ok done) is = made _ a b _ [] is.3.gains refl
-update_made bound key batch a b (Err update.Dropped) is = made _ a b _ [] is.0 refl
-update_made bound key batch a b (Err update.NoRow) is = made _ a b _ [] is.2 refl
-update_made bound key batch a b (Err update.TooMany) is = made _ a b _ [] is.2 refl
-update_made bound key batch a b (Err (update.NoSlot counts)) is = made _ a b [] [] is.3.grows refl
+update_made bound key batch a b answer is = grind arith
 
 pub replace_made : (key : ℕ) (rows : List Row) (a b : Caller) (answer : Result (Unit {0}) ReplaceFault)
     → ReplacesKey key rows a b answer → Made a b []
-replace_made key rows a b (Ok done) is = made _ a b _ [] is.gains refl
-replace_made key rows a b (Err replace.Dropped) is = made _ a b _ [] is.0 refl
-replace_made key rows a b (Err (replace.NoSlot counts)) is = made _ a b [] [] is.grows refl
+replace_made key rows a b answer is = grind arith
 
 pub evict_made : (key : ℕ) (a b : Caller) (answer : Evict) → EvictsKey key a b answer → Made a b []
-evict_made key a b evict.Evicted is = made _ a b _ [] is.0 refl
-evict_made key a b evict.Nothing is = made _ a b _ [] is.0 refl
+evict_made key a b answer is = grind arith
 
 pub cancel_made : (key : ℕ) (a b : Caller) (answer : Cancel) → CancelsKey key a b answer → Made a b []
-cancel_made key a b cancel.Cancelled is = made _ a b _ [] is.0 refl
-cancel_made key a b cancel.Nothing is = made _ a b _ [] is.0 refl
-cancel_made key a b cancel.Worn is = made _ a b _ [] is.0 refl
+cancel_made key a b answer is = grind arith
 
 -- a fill that was done, one that its key refused, and one that found no slot
 abbrev pub filling : ℕ → ℕ → List Row → List Filling
@@ -67,7 +54,7 @@ fill_made key number rows a b is = made _ a b _ _ is.gains refl
 
 pub pass_made : (key number : ℕ) (rows : List Row) (a b : Caller) (fault : FillFault)
     → FillsKey key number rows a b (Err fault) → Made a b []
-pass_made key number rows a b fill.NotAsked is = made _ a b _ [] is.0 refl
-pass_made key number rows a b fill.Already is = made _ a b _ [] is.0 refl
-pass_made key number rows a b fill.Stale is = made _ a b _ [] is.0 refl
-pass_made key number rows a b (fill.NoSlot counts) is = made _ a b [] [] is.grows refl
+pass_made key number rows a b fault is = grind arith
+
+-- a call of each kind
+pub ruleset calls_made = (made_none, update_made, replace_made, evict_made, cancel_made, fill_made, pass_made)

@@ -1,16 +1,18 @@
--- Where each find of a get stands in what its client has seen.
+-- Where each find of a get stands in what its client has seen, and what it hears of how much was applied.
 use Rattle.std.proofs.Common.{◌≡◌, ℕ, ◌<◌, Bool, true, false, ◌==◌, cond, List, [], ◌∷◌, ◌++◌, ap, subst, sym, ◌∙◌}
-use Rattle.std.proofs.Common.{arith, append_assoc, length, ⊎_elim}
+use Rattle.std.proofs.Common.{arith, append_assoc, length, ⊎_elim, ◌+◌}
 use Rattle.std.proofs.lemmas.List.{append-nil, append_cancel_left, length-replicate}
 use Rattle.std.proofs.lemmas.List.Elements.{filter-append}
 use Rattle.nr_model.specs.declared.states.KeyState.TheVariants.{Hole}
 use Rattle.nr_model.specs.Histories.{Entry, IsLegal, entries_of}
 use Rattle.nr_model.proofs.LawLemmas.{legal_begins_lem}
 use Rattle.nr_board.specs.Callers.{Caller, IsSound, KnowsOwn, map_at_opening}
-use Rattle.nr_map.specs.Written.{FindsWritten}
+use Rattle.nr_board.specs.Meetings.{HearsNote, Known, with_steps}
+use Rattle.nr_map.specs.Written.{FindsWritten, HeardBefore}
 use Rattle.nr_serve.specs.Callers.{Makes}
 use Rattle.nr_serve.specs.Gets.{found}
 use Rattle.nr_serve.specs.Heard.{GetsWhatItHeard}
+use Rattle.nr_serve.specs.Applied.{GetsWhatWasApplied}
 
 -- the entry stands in the log
 record Stands (log : List Entry) (e : Entry) : Type 0 where
@@ -53,9 +55,7 @@ module _ (steps : ℕ) (old new : Caller) (first rest : List Entry) (e : Entry)
       makes.sound
 
   own_after : entries_of makes.seen.rest old.number ≡ first ++ e ∷ rest
-  own_after = append_cancel_left old.mine (entries_of makes.seen.rest old.number) (first ++ e ∷ rest)
-      (ap (λ (l : List Entry). l ++ entries_of makes.seen.rest old.number) (sym knows)
-      ∙ rw (← filter-append, ← makes.seen.is, ← makes.number) (is_sound.own ∙ makes.mine))
+  own_after = grind (arith, append_cancel_left, filter-append, is_sound)
 
   made : Stands makes.seen.rest e
   made = stands makes.seen.rest old.number first rest e own_after
@@ -93,3 +93,24 @@ gets_what_it_heard_lem finds_written old note asking new key tries rows_before r
           finds_written opening before (since ++ more) put key by.number answer keys puts_it
           (legal_begins_lem opening ((written ++ (since ++ more)) ++ find ∷ []) there.back legal);
     }
+
+-- a note that is heard after steps which tell nothing
+pub hears_after_steps : (many : ℕ) (old new : Caller) (note : Known) → HearsNote 1 note (with_steps many old) new
+    → HearsNote (many + 1) note old new
+hears_after_steps many old new note hears = grind arith
+
+pub gets_what_was_applied_lem : (reached : ℕ → Known → Type 0) → GetsWhatItHeard → GetsWhatWasApplied reached
+gets_what_was_applied_lem reached law old heard least amount guest asking new key tries rows_before rows got first rest
+    answer near puts hears table seen knows gets among =
+    let note = hears.1 in
+    let put = puts note hears.2 in
+    let before = put.0 in let since = put.1 in let entry = put.2 in
+    let heard_before : HeardBefore note old asking.reader
+    = record { steps = 4; heard = heard; hears = hears.3; table = table; seen = seen } in (
+      before,
+      since,
+      entry,
+      put.4,
+      law old note asking new key tries rows_before rows got before since first rest entry answer near put.3 put.4
+          heard_before knows gets among,
+    )

@@ -1,14 +1,9 @@
 pub mod Counting
 pub mod Later
 pub mod Ringing
-pub mod Making
-pub mod Moving
-pub mod Trying
-pub mod Getting
 pub mod Waiting
-pub mod Serving
+pub mod Moving
 pub mod Heard
-pub mod Telling
 pub mod Filled
 pub mod Ledger
 pub mod Live

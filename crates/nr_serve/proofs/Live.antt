@@ -1,5 +1,5 @@
 -- A key's requests one after another, by the counts of sends, fills and cancels.
-use Rattle.std.proofs.Common.{◌≡◌, ◌≤◌, ◌+◌, ◌&&◌, ℕ, Bool, true, List, [], ◌∷◌, ◌++◌, cond, ap, arith}
+use Rattle.std.proofs.Common.{◌≡◌, ◌≤◌, ◌+◌, ◌&&◌, ℕ, Bool, true, List, [], ◌∷◌, ◌++◌, ap, arith}
 use Rattle.std.specs.List.{count_by}
 use Rattle.std.proofs.lemmas.List.Sums.{sum_by-append}
 use Rattle.nr_model.proofs.HistoryLemmas.{one, count_by-cons}
@@ -15,23 +15,18 @@ is_fill key e = fills_key key e.call && is_done e.reply
 -- an entry counts once where the test is true of it
 counts_last : (test : Entry → Bool) (l : List Entry) (e : Entry)
     → count_by test (l ++ e ∷ []) ≡ count_by test l + one (test e)
-counts_last test l e =
-    omega (arith, sum_by-append (λ (x : Entry). cond (test x) 1 0) l (e ∷ []), count_by-cons test e [])
+counts_last test l e = grind (arith, sum_by-append, count_by-cons)
 
 counts : (test : Entry → Bool) (l : List Entry) (e : Entry) (m : List Entry)
     → count_by test ((l ++ e ∷ []) ++ m) ≡ count_by test l + one (test e) + count_by test m
-counts test l e m =
-    omega (arith, sum_by-append (λ (x : Entry). cond (test x) 1 0) (l ++ e ∷ []) m, counts_last test l e)
+counts test l e m = grind (arith, sum_by-append, counts_last)
 
 -- a history with one entry more, and with others and another one behind it
 adds : (test : Entry → Bool) (before between : List Entry) (x y : Entry)
     → (count_by test (before ++ x ∷ []) ≡ count_by test before + one (test x))
     × (count_by test (((before ++ x ∷ []) ++ between) ++ y ∷ [])
     ≡ count_by test before + one (test x) + count_by test between + one (test y))
-adds test before between x y = (
-  counts_last test before x,
-  omega (arith, counts_last test ((before ++ x ∷ []) ++ between) y, counts test before x between),
-)
+adds test before between x y = grind (arith, counts_last, counts)
 
 -- a request is no fill and no cancel
 no_end : (key : ℕ) (e : Entry) → is_sent key e ≡ true → one (is_fill key e) + one (took_back key e) ≡ 0

@@ -17,10 +17,8 @@ use Rattle.nr_serve.specs.Flows.{FlowSeen}
 
 -- the key is filled, or isn't asked for, or not by the trigger's request
 abbrev pub IsPast : FillFault → Type 0
-IsPast fill.NotAsked = Unit {0}
-IsPast fill.Already = Unit {0}
-IsPast fill.Stale = Unit {0}
 IsPast (fill.NoSlot counts) = ⊥
+IsPast _ = Unit {0}
 
 -- the trigger's key was to be filled by its ticket number with these rows, which was answered so
 pub record FillsBy {S : Type 0} (post : Post) (rows : List Row) (old new : FlowSeen S)

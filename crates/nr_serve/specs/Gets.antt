@@ -53,8 +53,7 @@ sent_attempts _ = 0
 abbrev pub LeavesKept : Requested → Option Request → Type 0
 LeavesKept NotMade kept = is_some kept ≡ true
 LeavesKept (Sent number) kept = Unit {0}
-LeavesKept Waiting kept = kept ≡ None
-LeavesKept Filled kept = kept ≡ None
+LeavesKept _ kept = kept ≡ None
 
 -- one try that found a hole: the ticket that was kept is posted or kept still, and where none is kept a request is
 -- made, whose ticket is posted or kept
@@ -70,10 +69,9 @@ pub record MissesOnce (key : ℕ) (old new : Hands) (request : Requested) : Type
 
 -- a fill of the key is to come, or was made since
 abbrev pub IsPending : Requested → Type 0
-IsPending NotMade = ⊥
 IsPending (Sent number) = Unit {0}
 IsPending Waiting = Unit {0}
-IsPending Filled = ⊥
+IsPending _ = ⊥
 
 -- one try was made between these two, it found a hole, a fill is to come, and no ticket is kept
 pub record AwaitsFill (key : ℕ) (old new : Hands) (request : Requested) : Type 0 where
@@ -116,9 +114,8 @@ TriesOnce key old before new rows (tried.Ended got.Barred) =
 
 -- after that many tries that found a hole a get of so many may end so
 abbrev pub MayEnd : ℕ → Got → ℕ → Type 0
-MayEnd tries got.Rows missed = missed < tries
 MayEnd tries got.GaveUp missed = missed ≡ tries
-MayEnd tries got.Barred missed = missed < tries
+MayEnd tries _ missed = missed < tries
 
 -- how a get ends after those: by one try more, whose find is its last entry, or by none
 abbrev pub Ends : ℕ → Got → Hands → List Row → List Entry → Hands → List Row → Type 0

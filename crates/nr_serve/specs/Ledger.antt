@@ -48,20 +48,17 @@ fate_of spent.Failed rows = Failed
 -- what it came to where the source failed
 abbrev pub fate_by : Cancel → Fate
 fate_by cancel.Cancelled = Failed
-fate_by cancel.Nothing = Passed
-fate_by cancel.Worn = Passed
+fate_by _ = Passed
 
 module _ {S : Type 0} (gives : S → (key bound : ℕ) → List Row → S → Type 0)
     (fails : S → (key bound : ℕ) → S → Type 0) where
   -- the trigger that a turn spent
   abbrev pub ended_by : (old : FlowSeen S) (turned : TryTurn) (new : FlowSeen S)
       → TurnsOrFails gives fails old new turned → List Ending
-  ended_by old turn.Idle new turns = []
   ended_by old (turn.Filled key) new turns = ended turns.post (Filled turns.answers.rows)
   ended_by old (turn.Passed key) new (_, _, spends) = ended spends.post Passed
   ended_by old (turn.Failed key) new turns = ended turns.post (fate_by turns.answer)
-  ended_by old (turn.Kept counts) new turns = []
-  ended_by old (turn.Worn key) new turns = []
+  ended_by old _ new turns = []
 
   -- a call of the dataflow, by what its contract says, with the triggers that it gave out, those that it got back, and
   -- those that ended

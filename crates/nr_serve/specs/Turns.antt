@@ -81,9 +81,8 @@ module _ {S : Type 0} (gives : S → (key bound : ℕ) → List Row → S → Ty
 
 -- the request of a key is taken back, or stood no more
 abbrev pub IsOver : Cancel → Type 0
-IsOver cancel.Cancelled = Unit {0}
-IsOver cancel.Nothing = Unit {0}
 IsOver cancel.Worn = ⊥
+IsOver _ = Unit {0}
 
 module _ {S : Type 0} (fails : S → (key bound : ℕ) → S → Type 0) where
   -- the source, told the map's bound, failed for the trigger's key, and the trigger's own request is taken back, if it
@@ -143,15 +142,12 @@ Turns gives old new turned = TurnsOrFails gives FailsNever old new (tried turned
 
 -- a turn goes on with a trigger for whose key the source failed
 abbrev pub TurnsFailed : {S : Type 0} → Post → FlowSeen S → FlowSeen S → TryTurn → Type 0
-TurnsFailed post old new try_turn.Idle = ⊥
-TurnsFailed post old new (try_turn.Filled key) = ⊥
-TurnsFailed post old new (try_turn.Passed key) = ⊥
 TurnsFailed post old new (try_turn.Failed key) =
     (key ≡ post.upquery.key) × (answer : Cancel) × IsOver answer × FailsBy post old new answer
-TurnsFailed post old new (try_turn.Kept counts) = ⊥
 TurnsFailed post old new (try_turn.Worn key) =
     (key ≡ post.upquery.key) × TakesBack post.upquery old.writer new.writer cancel.Worn × OnlyLooks old.guest new.guest
     × (new ≡ record old { writer = new.writer; guest = new.guest; kept = Some post })
+TurnsFailed post old new _ = ⊥
 
 -- a cancel raises the lobby for the key where it took a request back, and else leaves it alone
 abbrev pub CancelRaises : Cancel → ℕ → GuestSeen → GuestSeen → Type 0

@@ -7,7 +7,7 @@ use Rattle.nr_map.specs.Tickets.{Request}
 use Rattle.nr_serve.specs.declared.hands.Hands.{Hands}
 use Rattle.nr_serve.specs.declared.answers.Got.{Got}
 use Rattle.nr_serve.specs.declared.answers.Requested.{Requested}
-use Rattle.nr_serve.specs.declared.answers.Requested.TheVariants.{NotMade, Sent, Waiting, Filled}
+use Rattle.nr_serve.specs.declared.answers.Requested.TheVariants.{Sent, Waiting}
 use Rattle.nr_serve.specs.declared.sleepers.TooLate.{TooLate}
 use Rattle.nr_serve.specs.Counts.{GuestSeen, closed_at, group_at}
 use Rattle.nr_serve.specs.Gets.{EndsLate, Gets, MissesAll}
@@ -26,10 +26,9 @@ unless_kept (Some kept) = 0
 
 -- the sleeps after one try that found a hole: one where a fill is to come, and no ticket is kept
 abbrev pub sleeps_after : Requested → Option Request → ℕ
-sleeps_after NotMade kept = 0
 sleeps_after (Sent number) kept = unless_kept kept
 sleeps_after Waiting kept = unless_kept kept
-sleeps_after Filled kept = 0
+sleeps_after _ kept = 0
 
 -- none where no try is left
 abbrev pub if_left : (left times : ℕ) → ℕ

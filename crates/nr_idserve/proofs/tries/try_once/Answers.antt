@@ -3,7 +3,7 @@ use Rattle.nr_idmap.specs.declared.finds.FoundId.{FoundId}
 use Rattle.nr_idmap.specs.declared.finds.FoundId.TheVariants as found
 use Rattle.nr_idmap.specs.IdFinds.{FindsById}
 use Rattle.nr_serve.proofs.Ringing.{rings_both}
-use Rattle.nr_idserve.proofs.IdGetting.{missed_by}
+use Rattle.nr_idserve.proofs.IdWaiting.{missed_by}
 use Rattle.nr_idserve.proofs.tries.try_once.Goals as goal
 
 pub returns-in-Moved-clause-rings : goal.returns-in-Moved-clause-rings

@@ -1,4 +1,4 @@
-use Rattle.nr_serve.proofs.Telling.{gets_what_was_applied_lem}
+use Rattle.nr_serve.proofs.Heard.{gets_what_was_applied_lem}
 use Rattle.nr_serve.proofs.laws.gets_what_was_applied.Goals as goal
 
 pub returns : goal.returns

@@ -1,7 +1,7 @@
 use Rattle.std.proofs.Common.{ap, subst, sym}
 use Rattle.nr_serve.specs.declared.hands.Hands.{Hands}
 use Rattle.nr_serve.proofs.Ringing.{rings_both, rings_same}
-use Rattle.nr_serve.proofs.Trying.{Posted, hole_by_hand, tries_hole}
+use Rattle.nr_serve.proofs.Waiting.{Posted, hole_by_hand, tries_hole}
 use Rattle.nr_serve.proofs.tries.try_once.Goals as goal
 
 pub returns-clause-tries : goal.returns-clause-tries

@@ -2,7 +2,7 @@ use Rattle.std.proofs.Common.{subst, ap, ◌∙◌}
 use Rattle.nr_board.specs.Callers.{Caller}
 use Rattle.nr_board.specs.Meetings.{HearsNote, with_steps}
 use Rattle.nr_map.specs.Hands.{Handed}
-use Rattle.nr_serve.proofs.Telling.{hears_after_steps}
+use Rattle.nr_serve.proofs.Heard.{hears_after_steps}
 use Rattle.nr_serve.proofs.applied.Applied.wait.Goals as goal
 
 pub returns-in-Some-look-clause-hears : goal.returns-in-Some-look-clause-hears

@@ -1,8 +1,8 @@
 use Rattle.std.proofs.Common.{subst}
 use Rattle.nr_serve.specs.Clients.{ClientSeen}
 use Rattle.nr_serve.specs.Waits.{GetsSleeping}
-use Rattle.nr_serve.proofs.Getting.{called_in_time}
-use Rattle.nr_serve.proofs.Serving.{serves_on}
+use Rattle.nr_serve.proofs.Waiting.{called_in_time}
+use Rattle.nr_serve.proofs.Moving.{serves_on}
 use Rattle.nr_serve.proofs.client.Client.get_within.Goals as goal
 
 pub invariant_of-self : goal.invariant_of-self
