@@ -1,9 +1,8 @@
 -- In the history of a load each find finds the one row that the base has then: the writer's calls obey the base, and so
 -- each key that is filled has its row.
-use Rattle.std.proofs.Common.{◌≡◌, ◌≢◌, ℕ, zero, suc, ◌+◌, ◌<◌, ◌≤◌, ◌==◌, ◌%◌, nat_lt, Bool, true, false}
-use Rattle.std.proofs.Common.{cond, MatchBool, List, [], ◌∷◌, ◌++◌, length, replicate, slice_index}
-use Rattle.std.proofs.Common.{slice_index_or, refl, sym, ap, ◌∙◌, subst, arith, eq-eqb, ⊎_elim, length-set, Option}
-use Rattle.std.proofs.Common.{None, Some, Ok}
+use Rattle.std.proofs.Common.{◌≡◌, ◌≢◌, ℕ, zero, suc, ◌+◌, ◌<◌, ◌≤◌, ◌==◌, ◌%◌, nat_lt, Bool, true, false, cond}
+use Rattle.std.proofs.Common.{MatchBool, List, [], ◌∷◌, ◌++◌, length, replicate, slice_index, slice_index_or, refl, sym}
+use Rattle.std.proofs.Common.{ap, ◌∙◌, subst, arith, eq-eqb, ⊎_elim, length-set, Option, None, Some, Ok}
 use Rattle.std.proofs.lemmas.Bool.{cases_eq}
 use Rattle.std.proofs.lemmas.Bool.Decides.{nat_tests}
 use Rattle.std.proofs.lemmas.List.{get_or-set_same, get_or-set_other, length-replicate}
@@ -189,9 +188,8 @@ finds_rows shape (e ∷ history) map base some size long has callers obeys legal
     )
 
 opens_hole : (keys at number key x : ℕ) → HasRow key x (slice_index_or (replicate keys (Hole number)) at (Hole 0))
-opens_hole zero at number key x = tt
-opens_hole (suc keys) zero number key x = tt
 opens_hole (suc keys) (suc at) number key x = opens_hole keys at number key x
+opens_hole keys at number key x = tt
 
 -- a new map has only holes
 pub opens_with_base : (table : Table) → HasBase (replicate table.shape.keys 0) (map_at_opening table)

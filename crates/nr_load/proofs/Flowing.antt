@@ -30,8 +30,7 @@ use Rattle.nr_load.specs.Base.{FollowsBase, GivesRow, IsRound, StepsBase, applie
 use Rattle.nr_load.specs.Flowed.{Changed, IsTurn, TurnsOnce}
 use Rattle.nr_load.specs.Gained.{Gained}
 use Rattle.nr_load.specs.UnderWay.{upqueries_in, upqueries_of}
-use Rattle.nr_load.proofs.Counting.{tells_evict, tells_update}
-use Rattle.nr_load.proofs.Gaining.{gained_as, gained_none, gained_then, grown, turns_gain}
+use Rattle.nr_load.proofs.Gaining.{tells_evict, tells_update, gained_as, gained_none, gained_then, grown, turns_gain}
 
 -- a change whose writer gained just these entries
 abbrev pub GainsChange : ℕ → Caller → Caller → Result (Unit {0}) UpdateFault → (fills key : ℕ) → List ℕ → List ℕ
@@ -71,16 +70,12 @@ change_updates keys bound fills key a b base base' batch (Err update.Dropped) lo
   grown _ keys a b _ 0 0 updates.0 (tells_update keys a.number key batch _ low),
   (key, batch, reply.Dropped, refl, λ same. absurd (cc)),
 )
-change_updates keys bound fills key a b base base' batch (Err update.NoRow) low other steps updates finds = (
-  grown _ keys a b _ 0 0 updates.2 (tells_update keys a.number key batch _ low),
-  (key, batch, reply.NoRow, refl, λ same. absurd (cc)),
-)
-change_updates keys bound fills key a b base base' batch (Err update.TooMany) low other steps updates finds = (
-  grown _ keys a b _ 0 0 updates.2 (tells_update keys a.number key batch _ low),
-  (key, batch, reply.TooMany, refl, λ same. absurd (cc)),
-)
 change_updates keys bound fills key a b base base' batch (Err (update.NoSlot counts)) low other steps updates finds =
     absurd (finds counts refl)
+change_updates keys bound fills key a b base base' batch (Err fault) low other steps updates finds = (
+  grown _ keys a b _ 0 0 updates.2 (tells_update keys a.number key batch _ low),
+  (key, batch, _, refl, λ same. absurd (cc)),
+)
 
 -- a trigger that was spent is a round, with whatever follows its fill
 spent_round : (old mid new : FlowSeen (List ℕ)) (key fills fills' : ℕ) (answer : Result (Unit {0}) FillFault)
@@ -108,13 +103,9 @@ passed_round : (old new : FlowSeen (List ℕ)) (key fills : ℕ) (fault : FillFa
     → (spends : SpendsOne GivesRow key old new (Err fault))
     → IsRound old.writer.number (turns_gain GivesRow old new (turn.Passed key) (fault, past, spends)).entries fills
     old.source fills new.source
-passed_round old new key fills fill.NotAsked long past spends =
-    spent_round old new new key fills fills _ reply.NotAsked [] long spends (refl, refl, spends.answers.gave.0)
-passed_round old new key fills fill.Already long past spends =
-    spent_round old new new key fills fills _ reply.Already [] long spends (refl, refl, spends.answers.gave.0)
-passed_round old new key fills fill.Stale long past spends =
-    spent_round old new new key fills fills _ reply.Stale [] long spends (refl, refl, spends.answers.gave.0)
 passed_round old new key fills (fill.NoSlot counts) long past spends = absurd past
+passed_round old new key fills fault long past spends =
+    spent_round old new new key fills fills _ _ [] long spends (refl, refl, spends.answers.gave.0)
 
 passed_fits : (old new : FlowSeen (List ℕ)) (key : ℕ) (fault : FillFault) (past : IsPast fault)
     (spends : SpendsOne GivesRow key old new (Err fault))

@@ -24,9 +24,8 @@ use Rattle.nr_load.specs.Faults.{earlier}
 use Rattle.nr_load.specs.Gained.{Tells}
 use Rattle.nr_load.specs.Outcomes.{Serves, ServesFirst, answered_in, earliest, made_in, reader_of, sends_in}
 use Rattle.nr_load.specs.Reports.{ComesTo, IsAccount, MakesAll, shape_of_plan}
-use Rattle.nr_load.proofs.Accounting.{all_sent, few_answered, new_writer, reader_at, writer_filled}
+use Rattle.nr_load.proofs.Settling.{all_sent, few_answered, new_writer, reader_at, writer_filled, none_of, served_sum}
 use Rattle.nr_load.proofs.Finding.{Obeys, finds_rows, opens_with_base, rounds_lead}
-use Rattle.nr_load.proofs.Settling.{none_of, served_sum}
 
 abbrev answered_of : Outcome → ℕ
 answered_of outcome = outcome.worked.answered

@@ -1,17 +1,19 @@
--- The turns of a load's dataflow, one after the other: its calls are those of a base, and its triggers are answered in
--- order.
-use Rattle.std.proofs.Common.{◌≡◌, ◌≢◌, ℕ, suc, ◌+◌, List, [], ◌∷◌, ◌++◌, replicate, refl, sym, ap}
-use Rattle.std.proofs.Common.{◌∙◌, arith, append_assoc, append-nil, Option, None, Some}
+-- The turns of a load's dataflow, one after the other: its calls are those of a base, none of the triggers that are
+-- taken ahead is lost, and they are answered in order.
+use Rattle.std.proofs.Common.{◌≡◌, ◌<◌, ◌≤◌, ℕ, List, [], ◌∷◌, ◌++◌, length, refl, sym, ap, ◌∙◌, arith, append_assoc}
+use Rattle.std.proofs.Common.{append-nil, Option, None, Some, ◌≢◌, suc, ◌+◌, replicate}
+use Rattle.std.proofs.lemmas.List.{map-append}
 use Rattle.std.specs.Prelude.{MatchOption}
 use Rattle.nr_model.specs.Histories.{Entry}
-use Rattle.nr_board.specs.Callers.{Caller, Table}
+use Rattle.nr_board.specs.Callers.{Table, Caller}
 use Rattle.nr_trigger.specs.declared.post.Post.{Post}
 use Rattle.nr_trigger.specs.declared.post.Upquery.{Upquery}
-use Rattle.nr_trigger.specs.Tokens.{TakerSeen}
-use Rattle.nr_serve.specs.Counts.{GuestSeen}
+use Rattle.nr_trigger.specs.Tokens.{WasEmpty, TakerSeen}
 use Rattle.nr_serve.specs.Flows.{FlowSeen}
+use Rattle.nr_serve.specs.Turns.{FindsNone, Takes, kept_posts}
+use Rattle.nr_serve.specs.Counts.{GuestSeen}
 use Rattle.nr_serve.specs.Hands.{capped}
-use Rattle.nr_serve.specs.Turns.{kept_posts}
+use Rattle.nr_load.specs.UnderWay.{AreBelow, TakesMore, UnderWaySeen, upqueries_in, upqueries_of, Readies}
 use Rattle.nr_load.specs.declared.fault.LoadFault.{LoadFault}
 use Rattle.nr_load.specs.declared.fault.LoadFault.TheVariants as faults
 use Rattle.nr_load.specs.declared.flow.Turned.{Turned}
@@ -19,10 +21,58 @@ use Rattle.nr_load.specs.declared.flow.Turned.TheVariants as turned
 use Rattle.nr_load.specs.Base.{Rounds}
 use Rattle.nr_load.specs.Flowed.{Flows, IsTurn, TurnsAll, TurnsOnce}
 use Rattle.nr_load.specs.Gained.{Gained}
-use Rattle.nr_load.specs.UnderWay.{Readies, UnderWaySeen, upqueries_in, upqueries_of}
 use Rattle.nr_load.proofs.Gaining.{gained_as, gained_none, gained_then}
-use Rattle.nr_load.proofs.Taking.{answers-append, spent_first, upqueries-append}
 
+-- TRIGGERS THAT ARE TAKEN AHEAD
+pub below_one_more : (keys : ℕ) (posts : List Post) (post : Post) → AreBelow keys posts → post.upquery.key < keys
+    → AreBelow keys (posts ++ post ∷ [])
+below_one_more keys [] post near low = (low, tt)
+below_one_more keys (first ∷ posts) post near low = (near.0, below_one_more keys posts post near.1 low)
+
+pub upqueries-append : (posts others : List Post)
+    → upqueries_of (posts ++ others) ≡ upqueries_of posts ++ upqueries_of others
+upqueries-append posts others = map-append (λ (post : Post). post.upquery) posts others
+
+pub answers-append : (entries others : List Entry)
+    → upqueries_in (entries ++ others) ≡ upqueries_in entries ++ upqueries_in others
+answers-append [] others = refl
+answers-append (e ∷ entries) others =
+    rw (answers-append entries others, append_assoc)
+
+-- the trigger that is kept is the one that is spent, and then nothing is taken
+pub spent_first : (kept : Option Post) (before gain after more spent : List Post)
+    → before ++ gain ≡ kept_posts kept ++ after → (kept ≡ None → after ≡ [])
+    → kept_posts kept ++ more ≡ spent ++ [] → length spent ≤ 1 → before ++ (gain ++ more) ≡ spent ++ after
+spent_first None before gain after more spent all oldest spends one =
+    rw (← append_assoc before gain more, all, oldest refl, spends)
+spent_first (Some post) before gain after [] spent all oldest spends one =
+    sym (append_assoc before gain []) ∙ append-nil (before ++ gain) ∙ all
+    ∙ ap (λ (l : List Post). l ++ after) (spends ∙ append-nil spent)
+spent_first (Some post) before gain after (next ∷ more) spent all oldest spends one =
+    absurd (omega (arith, ap (λ (l : List Post). length l) (spends ∙ append-nil spent), one))
+
+pub takes_one_more : (first mid new : FlowSeen (List ℕ)) (before under after : UnderWaySeen) (post : Post)
+    → TakesMore first before mid under → Takes mid new post
+    → after.posts ≡ under.posts ++ post ∷ [] → after.most ≡ under.most → TakesMore first before new after
+takes_one_more first mid new before under after post takes one posts most =
+    let gain : one.spends.gain ≡ post ∷ []
+    = ap (λ (kept : Option Post). kept_posts kept ++ one.spends.gain) (sym takes.none) ∙ one.spends.all in
+    let keys : mid.map.shape.keys ≡ first.map.shape.keys = ap (λ (t : Table). t.shape.keys) takes.only.map in
+    rw one.rest (record {
+      only = assumption takes.only;
+      none = refl;
+      gain = takes.gain ++ post ∷ [];
+      taken = rw (one.spends.taken, gain, takes.taken, append_assoc);
+      posts = rw (posts, takes.posts, append_assoc);
+      most = most ∙ takes.most;
+      near = rw posts
+          (below_one_more first.map.shape.keys under.posts post takes.near (omega (arith, one.near, keys)));
+    })
+
+pub was_empty : (mid new : FlowSeen (List ℕ)) → FindsNone mid new → WasEmpty new.taker
+was_empty mid new finds = rw finds.2 (record { moment = finds.1.moment; all = finds.1.all })
+
+-- TURNS
 -- what the turns so far came to, with these triggers under way
 pub record SoFar (first flow : FlowSeen (List ℕ)) (posts : List Post) (fills : ℕ) : Type 0 where
   pub count : ℕ
@@ -109,31 +159,25 @@ module _ (first old mid new : FlowSeen (List ℕ)) (before after : UnderWaySeen)
 
   taken_on : new.taker.taken ≡ first.taker.taken ++ gain_on
   unfolding gain_on
-  taken_on =
-      turn.spends.taken
-      ∙ ap (λ (l : List Post). l ++ turn.spends.gain) (ready.taken ∙ ap (λ (l : List Post). l ++ ready.gain) far.taken)
-      ∙ append_assoc (first.taker.taken ++ far.gain) ready.gain turn.spends.gain
-      ∙ append_assoc first.taker.taken far.gain (ready.gain ++ turn.spends.gain)
+  taken_on = rw (turn.spends.taken, ready.taken, far.taken) (simp append_assoc)
 
   answered_on : upqueries_of gain_on
       ≡ upqueries_in (far.gained.entries ++ turn.gained.entries) ++ upqueries_of after.posts
   unfolding gain_on
   answered_on =
       let more : List Post = ready.gain ++ turn.spends.gain in
-      let far_in : List Upquery = upqueries_in far.gained.entries in
-      let turn_in : List Upquery = upqueries_in turn.gained.entries in
       let split : before.posts ++ more ≡ turn.spent ++ after.posts
       = spent_first mid.kept before.posts ready.gain after.posts turn.spends.gain turn.spent ready.all ready.oldest
       turn.spends.all turn.one in
-      upqueries-append far.gain more
-      ∙ ap (λ (l : List Upquery). l ++ upqueries_of more) far.answered
-      ∙ append_assoc far_in (upqueries_of before.posts) (upqueries_of more)
-      ∙ ap (λ (l : List Upquery). far_in ++ l)
-      (sym (upqueries-append before.posts more) ∙ ap upqueries_of split ∙ upqueries-append turn.spent after.posts
-      ∙ ap (λ (l : List Upquery). l ++ upqueries_of after.posts) turn.fits)
-      ∙ sym (append_assoc far_in turn_in (upqueries_of after.posts))
-      ∙ ap (λ (l : List Upquery). l ++ upqueries_of after.posts)
-      (sym (answers-append far.gained.entries turn.gained.entries))
+      let joined : upqueries_of before.posts ++ upqueries_of more ≡ upqueries_of turn.spent ++ upqueries_of after.posts
+      = sym (upqueries-append before.posts more) ∙ ap upqueries_of split ∙ upqueries-append turn.spent after.posts in
+      rw (
+        upqueries-append far.gain more,
+        far.answered,
+        answers-append far.gained.entries turn.gained.entries,
+        ← turn.fits,
+      )
+      (simp append_assoc (ap (λ (l : List Upquery). upqueries_in far.gained.entries ++ l) joined))
 
   pub so_far_more : what ≢ turned.Wrong → SoFar first new after.posts fills'
   so_far_more right = record {

@@ -1,5 +1,5 @@
 use Rattle.std.proofs.Common.{arith}
-use Rattle.nr_load.proofs.Balancing.{accounts, balanced}
+use Rattle.nr_load.proofs.Gathering.{accounts, balanced}
 use Rattle.nr_load.proofs.load.account.Goals as goal
 
 pub returns : goal.returns

@@ -1,9 +1,9 @@
 use Rattle.std.proofs.Common.{◌≡◌, ◌==◌, ◌*◌, ℕ, refl, sym, ap, ◌∙◌, arith}
 use Rattle.std.proofs.lemmas.Bool.{eqb-true}
 use Rattle.nr_core.specs.declared.shape.Shape.{Shape}
-use Rattle.nr_load.proofs.Accounting.{all_cancelled, all_filled, all_sent, fits, in_order, own_readers}
+use Rattle.nr_load.proofs.Settling.{all_cancelled, all_filled, all_sent, fits, in_order, own_readers, none_told}
+use Rattle.nr_load.proofs.Settling.{served_few}
 use Rattle.nr_load.proofs.Reporting.{comes}
-use Rattle.nr_load.proofs.Settling.{none_told, served_few}
 use Rattle.nr_load.proofs.load.settle.Goals as goal
 
 pub collect-readers-requires-clause-room : goal.collect-readers-requires-clause-room

@@ -1,8 +1,8 @@
 use Rattle.std.proofs.Common.{◌≡◌, ◌∙◌, sym, ap, arith}
 use Rattle.nr_core.specs.Sums.{below}
 use Rattle.nr_board.specs.Callers.{Table}
-use Rattle.nr_load.proofs.CountingAsked.{all_keys, asked_small, counts_on, pending_at}
-use Rattle.nr_load.proofs.Gathering.{learns_sound, learns_stays, stays_then}
+use Rattle.nr_load.proofs.Gathering.{all_keys, asked_small, counts_on, pending_at, learns_sound, learns_stays}
+use Rattle.nr_load.proofs.Gathering.{stays_then}
 use Rattle.nr_load.proofs.tally.count_asked.Goals as goal
 
 pub loop-key-preserved : goal.loop-key-preserved

@@ -2,7 +2,7 @@ use Rattle.std.proofs.Common.{◌≡◌, ◌≤◌}
 use Rattle.nr_core.specs.Sums.{below}
 use Rattle.nr_load.specs.Balance.{Stays}
 use Rattle.nr_board.specs.Callers.{IsSound}
-use Rattle.nr_load.proofs.CountingAsked.{pending_at}
+use Rattle.nr_load.proofs.Gathering.{pending_at}
 use Rattle.nr_load.proofs.tally.count_asked.Given as goal
 
 abbrev pub invariant-loop-key : goal.invariant-loop-key

@@ -1,6 +1,5 @@
 use Rattle.std.proofs.Common.{◌≡◌, ◌∙◌, get_or, sym, arith}
-use Rattle.nr_load.proofs.Gathering.{stays_then}
-use Rattle.nr_load.proofs.Telling.{balances, tallies}
+use Rattle.nr_load.proofs.Gathering.{stays_then, balances, tallies}
 use Rattle.nr_load.proofs.tally.tally.Goals as goal
 
 pub returns : goal.returns

@@ -1,5 +1,5 @@
 use Rattle.std.proofs.Common.{◌∙◌}
-use Rattle.nr_load.proofs.Joining.{flows_of, joined_count, none_refused, served}
+use Rattle.nr_load.proofs.Settling.{flows_of, joined_count, none_refused, served}
 use Rattle.nr_load.proofs.threads.serve_within.Goals as goal
 
 pub returns : goal.returns

@@ -1,6 +1,6 @@
 use Rattle.std.proofs.Common.{◌≡◌, length, arith}
 use Rattle.std.specs.Vec.Iter.{into_iter_items}
-use Rattle.nr_load.proofs.Joining.{all_joined}
+use Rattle.nr_load.proofs.Settling.{all_joined}
 use Rattle.nr_load.proofs.workers.join_all.Goals as goal
 
 pub returns : goal.returns

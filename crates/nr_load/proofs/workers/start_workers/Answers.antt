@@ -3,7 +3,7 @@ use Rattle.std.proofs.lemmas.List.Elements.{All-head, All-rest, All-same}
 use Rattle.std.specs.Vec.Iter.{into_iter_items}
 use Rattle.nr_board.specs.Callers.{Caller}
 use Rattle.nr_load.specs.Handed.{IsPosterOf}
-use Rattle.nr_load.proofs.Joining.{started}
+use Rattle.nr_load.proofs.Settling.{started}
 use Rattle.nr_load.proofs.workers.start_workers.Goals as goal
 
 pub start_worker-requires-clause-queue : goal.start_worker-requires-clause-queue

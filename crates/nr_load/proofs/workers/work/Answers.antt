@@ -7,8 +7,8 @@ use Rattle.nr_serve.specs.Tickets.{sent}
 use Rattle.nr_load.specs.Drawn.{stream_of}
 use Rattle.nr_load.specs.Gained.{Gained}
 use Rattle.nr_load.specs.Works.{Works, of_gets}
-use Rattle.nr_load.proofs.Few.{works_few}
-use Rattle.nr_load.proofs.Sending.{since_gained}
+use Rattle.nr_load.proofs.Working.{works_few}
+use Rattle.nr_load.proofs.Gaining.{since_gained}
 use Rattle.nr_load.proofs.workers.work.Goals as goal
 
 pub returns-clause-serves : goal.returns-clause-serves

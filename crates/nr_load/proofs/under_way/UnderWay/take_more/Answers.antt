@@ -1,6 +1,6 @@
 use Rattle.std.proofs.Common.{[], ◌∷◌, List, length, length-append, ap, arith, inr, refl}
 use Rattle.nr_trigger.specs.declared.post.Post.{Post}
-use Rattle.nr_load.proofs.Taking.{takes_one_more, was_empty}
+use Rattle.nr_load.proofs.Turning.{takes_one_more, was_empty}
 use Rattle.nr_load.proofs.under_way.UnderWay.take_more.Goals as goal
 
 pub returns-in_default-clause-far : goal.returns-in_default-clause-far
