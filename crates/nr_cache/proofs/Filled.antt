@@ -3,6 +3,7 @@
 use Rattle.std.proofs.Common.{◌≡◌, ◌+◌, ◌≤◌, ◌<◌, ◌==◌, ℕ, suc, Bool, false, List, [], ◌∷◌, length}
 use Rattle.std.proofs.Common.{refl, sym, ap, ◌∙◌, arith, cond, get_or, nat_lt}
 use Rattle.std.specs.List.{count_by}
+use Rattle.std.proofs.lemmas.Bool.Decides.{nat_tests}
 use Rattle.nr_model.specs.declared.calls.Call.{Call}
 use Rattle.nr_model.specs.declared.calls.Call.TheVariants.{Find, Fill, Replace, Evict, Cancel}
 use Rattle.nr_model.specs.declared.calls.Reply.{Reply}
@@ -14,7 +15,6 @@ use Rattle.nr_model.specs.Histories.{is_done}
 use Rattle.nr_model.specs.Maps.{evict_reply, filled_count, is_filled_key, last_number, replaced, reply_at, state_after}
 use Rattle.nr_model.specs.Maps.{state_of}
 use Rattle.nr_model.proofs.HistoryLemmas.{count_by-cons}
-use Rattle.nr_core.proofs.Choices.{by_cases, on_test}
 use Rattle.nr_core.specs.declared.calls.NoSlot.{NoSlot}
 use Rattle.nr_board.specs.Callers.{Caller, Gains, Table, map_seen}
 use Rattle.nr_board.specs.WriterAnswers.{HasNoSlot}
@@ -25,39 +25,21 @@ use Rattle.nr_cache.specs.Values.{HasSlots, values_in}
 use Rattle.nr_cache.proofs.WriterCalls.{IsWriter, called, counts, grown_keeps, weight, writes}
 
 -- ONE KEY
-same : (n : ℕ) → n ≤ n
-same n = omega arith
-
 at_most_one : (state : KeyState) → weight state ≤ 1
-at_most_one (Rows n rows) = same 1
-at_most_one state = omega arith
+at_most_one state = grind arith
 
 replaced_weighs : (rows : List Row) (state : KeyState) → weight (replaced rows state) ≡ weight state
-replaced_weighs rows (Hole n) = refl
-replaced_weighs rows (Asked n) = refl
-replaced_weighs rows (Rows n old) = refl
+replaced_weighs rows state = grind arith
 
 -- a call that isn't done fills no key
 undone_weighs : (bound : ℕ) (call : Call) (state : KeyState) → is_done (reply_at bound call state) ≡ false
     → weight (state_after bound call state) ≤ weight state
-undone_weighs bound (Find key) state undone = same (weight state)
-undone_weighs bound (Fill key number rows) (Asked n) undone =
-    by_cases
-    (λ (b : Bool). is_done (cond b reply.Done reply.Stale) ≡ false → weight (cond b (Rows n rows) (Asked n)) ≤ 0)
-    (n == number) (λ same undone. absurd (cc (undone))) (λ other undone. same 0) undone
-undone_weighs bound (Replace key rows) state undone = omega (arith, replaced_weighs rows state)
-undone_weighs bound (Cancel key) (Asked n) undone =
-    on_test (λ (state : KeyState). weight state ≤ 0) (nat_lt n last_number) (λ below. same 0) (λ last. same 0)
-undone_weighs bound (Evict key) (Rows n rows) undone = omega arith
-undone_weighs bound call (Hole n) undone = same 0
-undone_weighs bound call (Asked n) undone = same 0
-undone_weighs bound call (Rows n rows) undone = same 1
+undone_weighs bound call state undone = grind (arith, nat_tests)
 
 -- an eviction that was done took one
 evicted_weighs : (bound key : ℕ) (state : KeyState) → reply.Evicted ≡ evict_reply state
     → weight (state_after bound (Evict key) state) + 1 ≡ weight state
-evicted_weighs bound key (Rows n rows) answered = refl
-evicted_weighs bound key state answered = absurd (cc (answered))
+evicted_weighs bound key state answered = grind arith
 
 -- A CALL
 pub undone_counts : {steps : ℕ} {call : Call} {answer : Reply} {old new : Caller} → IsWriter old

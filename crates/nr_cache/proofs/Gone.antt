@@ -18,7 +18,7 @@ use Rattle.nr_idmap.specs.IdWrites.{EvictsId, EvictsWay}
 use Rattle.nr_idmap.specs.Keepers.{IsTied, Keeper, name_at, owed_at}
 use Rattle.nr_idmap.specs.Tags.{IsResident}
 use Rattle.nr_cache.specs.Places.{HasValue, IsGone, OwesNone, TakesValue, Unnames}
-use Rattle.nr_cache.proofs.LastCalls.{not_passed_over}
+use Rattle.nr_cache.proofs.Ways.{not_passed_over}
 use Rattle.nr_cache.proofs.WriterCalls.{called, writes}
 
 -- A LOOK-UP

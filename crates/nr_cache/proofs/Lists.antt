@@ -1,26 +1,19 @@
 -- Lists of which the first element that passes a test is taken out, or written over.
-use Rattle.std.proofs.Common.{◌≡◌, ◌≢◌, ◌<◌, ℕ, suc, ◌⊎◌, inl, inr, Bool, true, false, cond, not, List, ◌++◌, Some}
-use Rattle.std.proofs.Common.{None, arith}
-use Rattle.std.proofs.Common.{length, get_or, set, take, drop, refl, sym, ◌∙◌, subst}
-use Rattle.std.specs.List.{Contains, position, position_or_len, remove}
-use Rattle.std.proofs.lemmas.Bool.{cases_eq, ltb-false, not-true}
+use Rattle.std.proofs.Common.{◌≡◌, ◌≢◌, ◌<◌, ℕ, zero, suc, ◌⊎◌, inl, inr, Bool, false, List, [], ◌∷◌, ◌++◌, None, arith}
+use Rattle.std.proofs.Common.{length, get_or, set, take, drop, sym, ◌∙◌, subst}
+use Rattle.std.specs.List.{Contains, position, remove}
+use Rattle.std.proofs.lemmas.Bool.{cases_eq}
+use Rattle.std.proofs.lemmas.Bool.Decides.{nat_tests}
 use Rattle.std.proofs.lemmas.List.{get_or-set_other, length-set, take-append-drop}
 use Rattle.std.proofs.lemmas.List.Elements.{Contains-append_cases, Contains-append_left, Contains-append_right}
-use Rattle.std.proofs.lemmas.List.Sums.{prefix_len_passes}
 use Rattle.std.proofs.lemmas.Grind.{get_or-set_at}
-use Rattle.std.proofs.Math.Dec.{ltb}
-
-cond_none : {X : Type 0} → (b : Bool) (x : X) → cond b (Some x) None ≡ None → b ≡ false
-cond_none true x e = absurd (cc (e))
-cond_none false x e = refl
 
 -- where none passes, each fails
 pub none_passes : {X : Type 0} → (p : X → Bool) (xs : List X) (k : ℕ) (d : X) → position p xs ≡ None → k < length xs
     → p (get_or xs k d) ≡ false
-none_passes p xs k d none within =
-    let all = ltb-false (position_or_len p xs) (length xs)
-    (cond_none (ltb (position_or_len p xs) (length xs)) (position_or_len p xs) none) in
-    not-true (p (get_or xs k d)) (prefix_len_passes (λ x. not (p x)) xs k d (omega (arith, all)))
+none_passes p [] k d none within = absurd (omega arith)
+none_passes p (x ∷ xs) zero d none within = grind (arith, nat_tests)
+none_passes p (x ∷ xs) (suc k) d none within = grind (arith, nat_tests, none_passes p xs k d)
 
 -- what is left was there
 pub contains_removed : {X : Type 0} → (xs : List X) (i : ℕ) (x : X) → Contains (remove xs i) x → Contains xs x

@@ -22,7 +22,7 @@ use Rattle.nr_cache.specs.StoreRuns.{changed_by, ended_by}
 use Rattle.nr_cache.specs.Stores.{BeginsFlight, ChangesId, LandsOwn, Looks, PutsOwn}
 use Rattle.nr_cache.specs.Weights.{Stock}
 use Rattle.nr_cache.proofs.InOrder.{each_flight_ends_once_lem, held_is_fresh_lem}
-use Rattle.nr_cache.proofs.QuietSteps.{each_quiet, first_quiet, look_quiet, loses_quiet, no_place_quiet, stays_quiet}
+use Rattle.nr_cache.proofs.Quiets.{each_quiet, first_quiet, look_quiet, loses_quiet, no_place_quiet, stays_quiet}
 use Rattle.nr_cache.proofs.Quiets.{IsQuiet, goes_on_lem, moves_then, quiet_learnt, quiet_same}
 
 -- the first of them is the first that has its number

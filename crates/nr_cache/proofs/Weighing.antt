@@ -1,31 +1,31 @@
 -- What ways weigh after a step: a way that lost its value weighs nothing, one that got a value weighs that, and each
 -- other what it did.
-use Rattle.std.proofs.Common.{◌≡◌, ◌≢◌, ◌<◌, ◌≤◌, ℕ, zero, suc, List, [], ◌∷◌, inl, inr, None}
-use Rattle.std.proofs.Common.{refl, sym, ap, ◌∙◌, arith, length, get_or, set}
+use Rattle.std.proofs.Common.{◌≡◌, ◌≢◌, ◌<◌, ◌≤◌, ℕ, zero, suc, List, [], ◌∷◌, inl, inr, None, refl, sym, ap, ◌∙◌}
+use Rattle.std.proofs.Common.{arith, length, get_or, set, Some, subst}
 use Rattle.std.specs.List.{sum}
 use Rattle.std.proofs.lemmas.Bool.{cases_eq}
 use Rattle.std.proofs.lemmas.List.{get_or_past, get_or-set_other, get_or-set_same, length-set}
 use Rattle.std.proofs.lemmas.List.Sums.{sum_by-cons}
-use Rattle.nr_board.specs.Callers.{Caller, map_seen}
+use Rattle.nr_model.specs.declared.calls.Call.TheVariants.{Fill, Replace}
+use Rattle.nr_model.specs.declared.calls.Reply.TheVariants.{Done}
+use Rattle.nr_model.specs.declared.rows.Row.{Row}
+use Rattle.nr_board.specs.Callers.{Caller, map_seen, Gains}
 use Rattle.nr_board.specs.Meetings.{with_step}
 use Rattle.nr_ids.specs.declared.admissions.Refused.{Refused}
+use Rattle.nr_ids.specs.Answers.{FindsWay}
 use Rattle.nr_idmap.specs.IdChoices.{StaysButClerk}
 use Rattle.nr_idmap.specs.IdWrites.{AdmitsId, EvictsWay, RefusesId}
-use Rattle.nr_idmap.specs.Keepers.{IsTied, Keeper, Owed, name_at}
-use Rattle.nr_idmap.specs.Tags.{set_at}
+use Rattle.nr_idmap.specs.Keepers.{IsTied, Keeper, Owed, name_at, state_at}
+use Rattle.nr_idmap.specs.Tags.{set_at, IsResident, id_set_of, tag_of}
 use Rattle.nr_cache.specs.Places.{IsOther}
 use Rattle.nr_cache.specs.Weights.{Fits, Lightens, Load, OnlyValuesWeigh, value_at, weighs_at}
 use Rattle.nr_cache.proofs.Gone.{found_there}
-use Rattle.nr_cache.proofs.LastCalls.{evicted_none}
-use Rattle.nr_cache.proofs.Ways.{below_or_past}
+use Rattle.nr_cache.proofs.Ways.{evicted_none, below_or_past, HasRows, filled_has, replaced_has}
 use Rattle.nr_cache.proofs.WriterCalls.{IsWriter, called, learnt_keeps, other_sets, writes}
 
 -- A LIST OF WEIGHTS
 zero_there : (each : List ℕ) (way : ℕ) → get_or (set each way 0) way 0 ≡ 0
-zero_there each way = elim (below_or_past way (length each)) [
-  | inl near ↦ get_or-set_same each way 0 0 near
-  | inr past ↦ get_or_past (set each way 0) way 0 (omega (arith, past, length-set each way 0))
-]
+zero_there each way = grind (arith, get_or_past, get_or-set_same, length-set)
 
 all_zero : (each : List ℕ) → ((way : ℕ) → get_or each way 0 ≡ 0) → sum each ≡ 0
 all_zero [] none = refl
@@ -132,3 +132,32 @@ pub evicted_mine : {id way taken other : ℕ} {old new : Keeper} → IsTied old 
     → IsOther other way id old → value_at new other ≡ value_at old other
 evicted_mine {way = way} {other = other} tied evicts has =
     evicted_others way tied evicts has.2 has.1 other (λ same. has.0 (sym same))
+
+-- A VALUE THAT COMES
+pub record Comes (way id : ℕ) (row : Row) (old new : Keeper) : Type 0 where
+  pub there : HasRows (tag_of id ∷ row ∷ []) (state_at new way)
+  pub others : (other : ℕ) → other ≢ way → value_at new other ≡ value_at old other
+
+pub comes_is : {way id : ℕ} {row : Row} {old new : Keeper} → Comes way id row old new
+    → IsResident (map_seen new.writer) id (row ∷ [])
+comes_is {way} comes = (way, comes.there)
+
+pub comes_only : {way id : ℕ} {row : Row} {old new : Keeper} (weight : ℕ) (load : Load) → Comes way id row old new
+    → OnlyValuesWeigh load old → OnlyValuesWeigh (weighs_at way weight load) new
+comes_only {way} {old = old} {new = new} weight load comes only =
+    only_comes way weight old new load only
+    (λ none. let is = sym (ap id_set_of comes.there.1) ∙ none in absurd (cc (is))) comes.others
+
+pub filled_comes : {steps way number owner id : ℕ} {row : Row} (old new : Keeper) → IsTied old → owner ≡ id
+    → Gains steps (Fill way number (tag_of owner ∷ row ∷ [])) old.writer new.writer Done → Comes way id row old new
+filled_comes {way = way} {row = row} old new tied same gains =
+    let calls = called (writes tied) gains in
+    subst (λ (i : ℕ). Comes way i row old new) same (record { there = filled_has calls; others = other_sets calls })
+
+pub replaced_comes : {steps found id : ℕ} {row : Row} (way : ℕ) (old new : Keeper) → IsTied old → 0 < id
+    → name_at old way ≡ id → FindsWay id old.clerk new.clerk (Some found)
+    → Gains steps (Replace found (tag_of id ∷ row ∷ [])) old.writer new.writer Done → Comes way id row old new
+replaced_comes {id = id} {row = row} way old new tied real named finds gains =
+    let calls = called (writes tied) gains in
+    subst (λ (w : ℕ). Comes w id row old new) (found_there way tied finds real named)
+    (record { there = replaced_has calls; others = other_sets calls })

@@ -2,9 +2,8 @@ use Rattle.std.proofs.Common.{◌≡◌, ◌≤◌, ◌∙◌, ℕ, ap, arith, b
 use Rattle.nr_board.specs.Callers.{Table}
 use Rattle.nr_idmap.specs.Keepers.{IdTable, name_at}
 use Rattle.nr_cache.specs.Places as places
-use Rattle.nr_cache.proofs.AllGone.{all_gone}
-use Rattle.nr_cache.proofs.QuietSteps.{each_quiet}
-use Rattle.nr_cache.proofs.Quiets.{quiet_fewer}
+use Rattle.nr_cache.proofs.Ways.{all_gone}
+use Rattle.nr_cache.proofs.Quiets.{each_quiet, quiet_fewer}
 use Rattle.nr_cache.proofs.Weighing.{lightens_same, lightens_then}
 use Rattle.nr_cache.proofs.clearing.take_all.Goals as goal
 

@@ -1,5 +1,5 @@
 use Rattle.std.proofs.Common.{◌∙◌}
-use Rattle.nr_cache.proofs.AllGone.{seen_names}
+use Rattle.nr_cache.proofs.Ways.{seen_names}
 use Rattle.nr_cache.proofs.Gone.{found_there, has_value, none_still, unnamed_at}
 use Rattle.nr_cache.proofs.Weighing.{evicted_lightens, lightens_stays, lightens_then, only_still}
 use Rattle.nr_cache.proofs.clearing.take_at.Goals as goal

@@ -1,5 +1,5 @@
 use Rattle.std.proofs.Common.{◌∙◌}
-use Rattle.nr_cache.proofs.Admitting.{absent_still, chooses_one, room_is_free}
+use Rattle.nr_cache.proofs.Placing.{absent_still, chooses_one, room_is_free}
 use Rattle.nr_cache.proofs.Gone.{has_value}
 use Rattle.nr_cache.proofs.Weighing.{lightens_stays, lightens_then, only_still}
 use Rattle.nr_cache.proofs.evictions.make_room.Goals as goal

@@ -1,8 +1,7 @@
 use Rattle.std.proofs.Common.{◌∙◌, true, false}
-use Rattle.nr_cache.proofs.Brought.{evict_brings}
+use Rattle.nr_cache.proofs.Looking.{evict_brings}
 use Rattle.nr_cache.proofs.Gone.{gone_after, takes_none, takes_some}
-use Rattle.nr_cache.proofs.QuietSteps.{takes_quiet}
-use Rattle.nr_cache.proofs.Quiets.{quiet_fewer}
+use Rattle.nr_cache.proofs.Quiets.{takes_quiet, quiet_fewer}
 use Rattle.nr_cache.proofs.evictions.take_value.Goals as goal
 
 pub returns-in-Evicted-clause-takes : goal.returns-in-Evicted-clause-takes

@@ -2,10 +2,10 @@ use Rattle.std.proofs.Common.{◌≡◌, ℕ, Some, arith, ap, sym, subst, ◌�
 use Rattle.nr_idmap.specs.Keepers.{IdTable}
 use Rattle.nr_cache.specs.Places.{IsOther}
 use Rattle.nr_cache.specs.Stamps.{GoesNext, way_after}
-use Rattle.nr_cache.proofs.AllGone.{none_left}
+use Rattle.nr_cache.proofs.Ways.{none_left}
 use Rattle.nr_cache.proofs.Filled.{evicted_fewer}
 use Rattle.nr_cache.proofs.Gone.{looked_names}
-use Rattle.nr_cache.proofs.Stale.{looks_leave}
+use Rattle.nr_cache.proofs.Looking.{looks_leave}
 use Rattle.nr_cache.proofs.Weighing.{evicted_lightens, lightens_same, lightens_then, only_still}
 use Rattle.nr_cache.proofs.firsts.take_first.Goals as goal
 

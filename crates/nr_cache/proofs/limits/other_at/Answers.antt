@@ -1,4 +1,4 @@
-use Rattle.nr_cache.proofs.AllGone.{seen_names}
+use Rattle.nr_cache.proofs.Ways.{seen_names}
 use Rattle.nr_cache.proofs.limits.other_at.Goals as goal
 
 pub returns-clause-names : goal.returns-clause-names

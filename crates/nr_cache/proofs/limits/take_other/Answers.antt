@@ -1,7 +1,7 @@
-use Rattle.nr_cache.proofs.Brought.{evict_brings}
+use Rattle.nr_cache.proofs.Looking.{evict_brings}
 use Rattle.nr_cache.proofs.Filled.{evicted_fewer}
 use Rattle.nr_cache.proofs.Gone.{has_value}
-use Rattle.nr_cache.proofs.MakingRoom.{not_nothing}
+use Rattle.nr_cache.proofs.Placing.{not_nothing}
 use Rattle.nr_cache.proofs.Weighing.{evicted_lightens, evicted_mine, only_still}
 use Rattle.nr_cache.proofs.limits.take_other.Goals as goal
 

@@ -1,8 +1,7 @@
 use Rattle.std.proofs.Common.{◌∙◌, ap, arith, refl}
 use Rattle.nr_cache.specs.Finds.{tells_value}
-use Rattle.nr_cache.proofs.Brought.{brings_one}
-use Rattle.nr_cache.proofs.LastCalls.{not_passed_over}
-use Rattle.nr_cache.proofs.LookingAt.{looked_at}
+use Rattle.nr_cache.proofs.Looking.{brings_one, looked_at}
+use Rattle.nr_cache.proofs.Ways.{not_passed_over}
 use Rattle.nr_cache.proofs.WriterCalls.{called, find_keeps, writes}
 use Rattle.nr_cache.proofs.looks.look_at.Goals as goal
 

@@ -1,7 +1,7 @@
 use Rattle.std.proofs.Common.{◌≢◌, ℕ, arith, inl, inr, subst}
 use Rattle.std.proofs.lemmas.Bool.{cases_eq}
 use Rattle.nr_cache.specs.Stamps.{IsStale, stamp_at}
-use Rattle.nr_cache.proofs.Stale.{no_look, then_around}
+use Rattle.nr_cache.proofs.Looking.{no_look, then_around}
 use Rattle.nr_cache.proofs.stamps.stale_way.Goals as goal
 
 pub returns-then-bound-eq0-clause-looks : goal.returns-then-bound-eq0-clause-looks

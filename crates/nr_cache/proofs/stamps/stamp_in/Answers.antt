@@ -1,7 +1,7 @@
 use Rattle.std.proofs.Common.{◌∙◌, ap, refl, sym}
 use Rattle.nr_cache.specs.Stamps as stamps
 use Rattle.nr_cache.specs.Stamps.{first_stamp}
-use Rattle.nr_cache.proofs.Stale.{looks_leave, missed_stamp, seen_stamp, stamps_same}
+use Rattle.nr_cache.proofs.Looking.{looks_leave, missed_stamp, seen_stamp, stamps_same}
 use Rattle.nr_cache.proofs.stamps.stamp_in.Goals as goal
 
 pub returns-in_default-clause-looks : goal.returns-in_default-clause-looks

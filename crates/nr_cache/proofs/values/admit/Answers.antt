@@ -1,5 +1,5 @@
 use Rattle.std.proofs.Common.{◌∙◌, inr, sym}
-use Rattle.nr_cache.proofs.Admitting.{not_full, owes_only, refused_absent}
+use Rattle.nr_cache.proofs.Placing.{not_full, owes_only, refused_absent}
 use Rattle.nr_cache.proofs.Weighing.{lightens_admitted, lightens_refused, lightens_then, only_still}
 use Rattle.nr_cache.proofs.values.admit.Goals as goal
 

@@ -1,11 +1,9 @@
 use Rattle.std.proofs.Common.{◌∙◌, ℕ, Some, None, ap, arith, inl, inr, refl}
 use Rattle.nr_cache.specs.Weights.{stock_of, weighs_at}
-use Rattle.nr_cache.proofs.Comes.{comes_is, comes_only, filled_comes}
+use Rattle.nr_cache.proofs.Weighing.{comes_is, comes_only, filled_comes, lightens_same}
 use Rattle.nr_cache.proofs.Gone.{is_gone}
 use Rattle.nr_cache.proofs.Placing.{admitted_id}
-use Rattle.nr_cache.proofs.QuietSteps.{admits_quiet}
-use Rattle.nr_cache.proofs.Quiets.{quiet_fewer}
-use Rattle.nr_cache.proofs.Weighing.{lightens_same}
+use Rattle.nr_cache.proofs.Quiets.{admits_quiet, quiet_fewer}
 use Rattle.nr_cache.proofs.values.enter.Goals as goal
 
 pub returns-then-not-claim-clause-enters : goal.returns-then-not-claim-clause-enters

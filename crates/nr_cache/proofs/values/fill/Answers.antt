@@ -2,8 +2,8 @@ use Rattle.std.proofs.Common.{ap, refl, sym, subst, ◌∙◌}
 use Rattle.nr_board.specs.Callers.{Table}
 use Rattle.nr_idmap.specs.Keepers.{IdTable}
 use Rattle.nr_cache.specs.Values.{HasSlots, values_in}
-use Rattle.nr_cache.proofs.Admitting.{closes_only}
-use Rattle.nr_cache.proofs.Brought.{brings_one}
+use Rattle.nr_cache.proofs.Placing.{closes_only}
+use Rattle.nr_cache.proofs.Looking.{brings_one}
 use Rattle.nr_cache.proofs.Filled.{filled_more, has_slot}
 use Rattle.nr_cache.proofs.WriterCalls.{writes}
 use Rattle.nr_cache.proofs.values.fill.Goals as goal

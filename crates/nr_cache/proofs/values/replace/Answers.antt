@@ -3,8 +3,8 @@ use Rattle.nr_board.specs.Callers.{Table}
 use Rattle.nr_idmap.specs.Keepers.{IdTable}
 use Rattle.nr_cache.specs.Values.{HasSlots}
 use Rattle.nr_cache.specs.Weights.{stock_of}
-use Rattle.nr_cache.proofs.Brought.{brings_one}
-use Rattle.nr_cache.proofs.Comes.{comes_is, comes_only, replaced_comes}
+use Rattle.nr_cache.proofs.Looking.{brings_one}
+use Rattle.nr_cache.proofs.Weighing.{comes_is, comes_only, replaced_comes}
 use Rattle.nr_cache.proofs.Filled.{replaced_fewer}
 use Rattle.nr_cache.proofs.Gone.{found_none}
 use Rattle.nr_cache.proofs.Placing.{not_refused}

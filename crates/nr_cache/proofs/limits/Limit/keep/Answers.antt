@@ -1,6 +1,6 @@
 use Rattle.std.proofs.Common.{ℕ, arith, subst}
 use Rattle.nr_cache.specs.Places.{HoldsNoOther}
-use Rattle.nr_cache.proofs.MakingRoom.{no_values, owes_still}
+use Rattle.nr_cache.proofs.Placing.{no_values, owes_still}
 use Rattle.nr_cache.proofs.limits.Limit.keep.Goals as goal
 
 pub let_one_go-requires-clause-some : goal.let_one_go-requires-clause-some

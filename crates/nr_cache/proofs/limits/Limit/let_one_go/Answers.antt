@@ -1,6 +1,6 @@
 use Rattle.std.proofs.Common.{arith, sym, ◌∙◌}
-use Rattle.nr_cache.proofs.AllGone.{no_other}
-use Rattle.nr_cache.proofs.Stale.{looks_leave}
+use Rattle.nr_cache.proofs.Ways.{no_other}
+use Rattle.nr_cache.proofs.Looking.{looks_leave}
 use Rattle.nr_cache.proofs.Weighing.{lightens_same, lightens_then}
 use Rattle.nr_cache.proofs.limits.Limit.let_one_go.Goals as goal
 

@@ -1,7 +1,7 @@
 use Rattle.std.proofs.Common.{rules, subst}
 use Rattle.nr_idmap.specs.Keepers.{IsTied}
 use Rattle.nr_cache.specs.StoreSeen.{StoreSeen}
-use Rattle.nr_cache.proofs.LookingAt.{swaps_own}
+use Rattle.nr_cache.proofs.Looking.{swaps_own}
 use Rattle.nr_cache.proofs.store.Store.swap.Goals as goal
 
 pub returns-in-Own-clause-swaps : goal.returns-in-Own-clause-swaps
