@@ -1,8 +1,7 @@
 -- Each step on the word of a map's closing keeps what it says.
-use Rattle.std.proofs.Common.{Bool, MatchBool, [], ap, arith, length-set, min, nat_eq, refl, set}
-use Rattle.std.proofs.Common.{slice_index, subst, true, ℕ, ⊎_elim, ◌+◌, ◌∙◌, ◌∷◌, ◌≡◌}
+use Rattle.std.proofs.Common.{Bool, MatchBool, [], ap, arith, length-set, min, nat_eq, refl, set, slice_index, subst}
+use Rattle.std.proofs.Common.{true, ℕ, ⊎_elim, ◌+◌, ◌∙◌, ◌∷◌, ◌≡◌, get_or-set_same}
 use Rattle.std.specs.Bool.{⊤}
-use Rattle.std.proofs.lemmas.List.{get_or-set_same}
 use mathlib.Core.Option.{none, some}
 use lib.ListN.{get_elem?}
 use Rattle.atomic_table.specs.Table.{Allows, Enters, Me, State, keeps, step, stepped}

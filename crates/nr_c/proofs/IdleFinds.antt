@@ -1,10 +1,9 @@
 -- Finds by a hand that holds nothing, as those of its reader.
-use Rattle.std.proofs.Common.{◌≡◌, ℕ, suc, ◌+◌, arith, ap, subst, ◌∙◌}
+use Rattle.std.proofs.Common.{◌≡◌, ℕ, ◌+◌, arith, ap, subst, ◌∙◌}
 use Rattle.nr_core.specs.Marks.{Marks, with_loads}
 use Rattle.nr_core.specs.Puts.{put_number}
 use Rattle.nr_board.specs.Callers.{Caller}
 use Rattle.nr_board.specs.declared.answers.Found.{Found}
-use Rattle.nr_board.specs.declared.answers.Found.TheVariants as found
 use Rattle.nr_map.specs.Answers.{FindsIn, acts_of, marks_found}
 use Rattle.nr_map.specs.Hands.{FindsAndLetsGo, Handed}
 use Rattle.nr_c.specs.declared.rows.NrRows.{NrRows}
@@ -16,8 +15,7 @@ use Rattle.nr_c.specs.RowCells.{ShowsSet}
 -- a find's acts are those that its answer tells
 acts_found : (answer : Found) (marks : Marks) (put : ℕ)
     → (marks_found answer marks put).acts ≡ marks.acts + acts_of answer
-acts_found found.Rows marks put = let two : suc (suc marks.acts) ≡ marks.acts + 2 = omega arith in two
-acts_found found.Hole marks put = let one : suc marks.acts ≡ marks.acts + 1 = omega arith in one
+acts_found answer marks put = grind arith
 
 module _ (key : ℕ) (old new : Handed) (before after : NrRows) (answer : Found)
     (finds : FindsAndLetsGo ShowsSet key old before new after answer) where

@@ -4,7 +4,6 @@ pub mod HandleMet
 pub mod HandleLent
 pub mod HandleSend
 pub mod FindsMade
-pub mod PartsPut
 pub mod IdleFinds
 pub mod LookedUp
 pub mod LedgerLemmas

@@ -1,5 +1,5 @@
 -- A cache as C calls it.
-use Rattle.std.specs.Prelude.{ℕ, ◌≡◌, if◌then◌else◌, List, [], ◌∷◌, Option, Some, None}
+use Rattle.std.specs.Prelude.{ℕ, ◌≡◌, if◌then◌else◌, Option, Some, None}
 use Rattle.nr_cache.specs.declared.counts.Counts.{Counts}
 use Rattle.nr_cache.specs.declared.finds.FoundValue.{FoundValue}
 use Rattle.nr_cache.specs.declared.flights.Flight.{Flight}

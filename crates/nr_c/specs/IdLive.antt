@@ -1,5 +1,5 @@
 -- What a call by id from C keeps of a handle, and what its token gains.
-use Rattle.std.specs.Prelude.{ℕ, ◌≡◌, ◌<◌, ◌⊎◌, Bool, MatchBool, List, [], ◌∷◌}
+use Rattle.std.specs.Prelude.{ℕ, ◌≡◌, ◌<◌, Bool, MatchBool, List}
 use Rattle.nr_idmap.specs.IdHands.{IdHanded, reader_of}
 use Rattle.nr_idmap.specs.Keepers.{IdCaller, Keeper, OwesSame}
 use Rattle.nr_c.specs.declared.id_reader_side.IdReaderSide.{IdReaderSide}

@@ -1,6 +1,6 @@
 -- Finds of many ids by one call from C.
-use Rattle.std.specs.Prelude.{ℕ, ◌≡◌, ◌<◌, ◌%◌, ◌==◌, ◌⊎◌, All, Bool, true, false, List, [], ◌∷◌, length, map, take}
-use Rattle.std.specs.Prelude.{Option, Some, None, replicate, slice_get}
+use Rattle.std.specs.Prelude.{ℕ, ◌≡◌, ◌<◌, ◌%◌, ◌==◌, All, Bool, true, false, List, length, map, take, Option, Some}
+use Rattle.std.specs.Prelude.{None, replicate, slice_get}
 use Rattle.nr_idmap.specs.declared.finds.FoundId.{FoundId}
 use Rattle.nr_idmap.specs.declared.finds.NamedWay.{NamedWay}
 use Rattle.nr_idmap.specs.IdHands.{IdHanded, LetsGoById}

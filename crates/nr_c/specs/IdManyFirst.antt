@@ -1,6 +1,6 @@
 -- Finds of many ids by one call from C, whose rows go to one array of the caller's.
-use Rattle.std.specs.Prelude.{ℕ, ◌≡◌, ◌<◌, ◌/◌, ◌%◌, ◌==◌, All, Bool, true, false, List, [], ◌∷◌, length, map, take}
-use Rattle.std.specs.Prelude.{Option, Some, None, replicate, slice_get}
+use Rattle.std.specs.Prelude.{ℕ, ◌≡◌, ◌<◌, ◌/◌, ◌%◌, ◌==◌, All, List, length, map, take, Option, Some, None, replicate}
+use Rattle.std.specs.Prelude.{slice_get}
 use Rattle.nr_model.specs.declared.rows.Row.{Row}
 use Rattle.nr_idmap.specs.declared.finds.FoundId.{FoundId}
 use Rattle.nr_idmap.specs.declared.finds.NamedWay.{NamedWay}

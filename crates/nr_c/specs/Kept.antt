@@ -1,5 +1,5 @@
 -- A reader that keeps what it finds, as C calls it.
-use Rattle.std.specs.Prelude.{ℕ, List}
+use Rattle.std.specs.Prelude.{ℕ}
 use Rattle.nr_board.specs.declared.answers.Found.{Found}
 use Rattle.nr_map.specs.Hands.{FindsKept, held_for}
 use Rattle.nr_c.specs.declared.reader_side.ReaderSide.{ReaderSide}

@@ -1,5 +1,5 @@
 -- Finds of many keys by one call from C.
-use Rattle.std.specs.Prelude.{ℕ, ◌≡◌, ◌<◌, ◌+◌, ◌%◌, ◌==◌, ◌⊎◌, All, Bool, true, false, List, [], ◌∷◌, map, take}
+use Rattle.std.specs.Prelude.{ℕ, ◌≡◌, ◌<◌, ◌+◌, ◌%◌, ◌==◌, All, Bool, true, false, List, [], ◌∷◌, map, take}
 use Rattle.nr_board.specs.declared.answers.Found.{Found}
 use Rattle.nr_map.specs.LoadsAhead.{LoadsAhead}
 use Rattle.nr_map.specs.Hands.{FindsKept, Handed, LetsGo}

@@ -1,6 +1,6 @@
 -- Finds of many by one call from C, whose rows go to one array of the caller's.
-use Rattle.std.specs.Prelude.{ℕ, ◌≡◌, ◌<◌, ◌*◌, ◌/◌, ◌%◌, ◌==◌, All, Bool, true, false, List, [], ◌∷◌, ◌++◌, drop}
-use Rattle.std.specs.Prelude.{length, map, take, Option, Some, None}
+use Rattle.std.specs.Prelude.{ℕ, ◌≡◌, ◌<◌, ◌*◌, ◌/◌, ◌%◌, ◌==◌, All, List, ◌++◌, drop, length, map, take, Option, Some}
+use Rattle.std.specs.Prelude.{None}
 use Rattle.nr_model.specs.declared.rows.Row.{Row}
 use Rattle.nr_map.specs.FirstRows.{FindsFirst}
 use Rattle.nr_map.specs.Hands.{Handed, LetsGo}

@@ -1,5 +1,5 @@
 -- A reader that holds a set, as C calls it.
-use Rattle.std.specs.Prelude.{ℕ, ◌*◌, ◌≡◌, ◌≤◌, ◌⊎◌, Bool, true, false, if◌then◌else◌, List, length, slice_get, Some}
+use Rattle.std.specs.Prelude.{ℕ, ◌*◌, ◌≡◌, ◌≤◌, ◌⊎◌, Bool, true, false, if◌then◌else◌, length, slice_get, Some}
 use Rattle.nr_model.specs.declared.rows.Row.{Row}
 use Rattle.nr_map.specs.Hands.{AgainByHand, CopiesHeld, LetsGo, PinsByHand, held_for}
 use Rattle.nr_c.specs.Numbers.{answer_done, answer_hole, answer_no_row, answer_other, answer_rows}

@@ -1,5 +1,5 @@
 -- What a post and a take say of their tokens, by their codes.
-use Rattle.std.specs.Prelude.{ℕ, ◌≡◌, ◌<◌, ◌+◌, ◌⊎◌, List, [], ◌∷◌, ◌++◌, MatchResult, Result}
+use Rattle.std.specs.Prelude.{ℕ, ◌≡◌, ◌<◌, ◌+◌, ◌⊎◌, [], ◌∷◌, ◌++◌, MatchResult, Result}
 use Rattle.nr_trigger.specs.declared.faults.PostFault.{PostFault}
 use Rattle.nr_trigger.specs.declared.faults.PostFault.TheVariants as post
 use Rattle.nr_trigger.specs.declared.faults.TakeFault.{TakeFault}

@@ -8,8 +8,7 @@ use Rattle.nr_board.specs.Callers.{Caller}
 use Rattle.nr_board.specs.Reaping.{ReapsIn}
 use Rattle.nr_board.specs.Reclaiming.{FillsReclaiming, ReplacesReclaiming, UpdatesReclaiming}
 use Rattle.nr_c.specs.declared.rows.NrRows.{NrRows}
-use Rattle.nr_c.specs.Codes.{ByCode, fill_reclaiming_code, reaped_code, replace_reclaiming_code}
-use Rattle.nr_c.specs.Codes.{update_reclaiming_code}
+use Rattle.nr_c.specs.Codes.{ByCode, fill_reclaiming_code, reaped_code, replace_reclaiming_code, update_reclaiming_code}
 use Rattle.nr_c.specs.RowCells.{ShowsSet}
 use Rattle.nr_c.specs.Writes.{RefusesBatch, RefusesRows}
 

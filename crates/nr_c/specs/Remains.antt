@@ -1,6 +1,5 @@
 -- A map that is taken apart by its writer's handle, and the sets that come out of what remains.
-use Rattle.std.specs.Prelude.{ℕ, ◌≡◌, ◌≢◌, ◌⊎◌, Bool, false, if◌then◌else◌, List, [], length, Option, Some}
-use Rattle.std.specs.Prelude.{None}
+use Rattle.std.specs.Prelude.{◌≡◌, ◌≢◌, ◌⊎◌, Bool, false, if◌then◌else◌, [], length, Option, Some, None}
 use Rattle.nr_map.specs.Remains.{NextOf, TakenApart}
 use Rattle.nr_c.specs.Endings.{HasEnded}
 use Rattle.nr_c.specs.Codes.{ByCode}

@@ -1,5 +1,5 @@
 -- The sizes of a map as C has them.
-use Rattle.std.specs.Prelude.{ℕ, ◌≡◌, List, [], ◌∷◌}
+use Rattle.std.specs.Prelude.{◌≡◌}
 use Rattle.nr_core.specs.declared.shape.Shape.{Shape}
 use Rattle.nr_c.specs.Live.{Call, Turns}
 use Rattle.nr_c.specs.Numbers.{answer_done}

@@ -1,5 +1,5 @@
 use Rattle.std.proofs.Common.{arith, inl, inr, refl, Some, None}
-use Rattle.nr_c.proofs.KeptUpqueries.{owes_all}
+use Rattle.nr_c.proofs.KeptUpqueries.{owes_all, turns}
 use Rattle.nr_c.proofs.id_choices.nr_choose_id.Goals as goal
 
 pub returns-then-are_all_asked : goal.returns-then-are_all_asked
@@ -15,28 +15,16 @@ pub returns-in-Some : goal.returns-in-Some
 returns-in-Some c =
     let asked = c.if-are_all_asked.ensures in let chosen = c.in-Some.ensures in let stays = chosen.stays in
     let some = rw (c.group_of.ensures, c.deref.ensures, ← c.side-side.result.now.own) at asked.some in
-    rw (← c.is_live.ensures.same, c.side-side.ensures.value) (inr (inr (
-      omega arith,
-      (
-        (refl, refl, refl),
-        inr (record {
-          some = some;
-          chooses = owes_all stays.owes stays.asker refl (Some c.in-Some.named, refl, (refl, chosen.chooses, stays));
-        }),
-      ),
-    )))
+    rw (← c.is_live.ensures.same, c.side-side.ensures.value) (turns (omega arith) (refl, refl, refl) (inr (record {
+      some = some;
+      chooses = owes_all stays.owes stays.asker refl (Some c.in-Some.named, refl, (refl, chosen.chooses, stays));
+    })))
 
 pub returns-in-None : goal.returns-in-None
 returns-in-None c =
     let asked = c.if-are_all_asked.ensures in let chosen = c.in-None.ensures in let stays = chosen.stays in
     let some = rw (c.group_of.ensures, c.deref.ensures, ← c.side-side.result.now.own) at asked.some in
-    rw (← c.is_live.ensures.same, c.side-side.ensures.value) (inr (inr (
-      omega arith,
-      (
-        (refl, refl, refl),
-        inr (record {
-          some = some;
-          chooses = owes_all stays.owes stays.asker refl (None, refl, (refl, chosen.chooses, stays));
-        }),
-      ),
-    )))
+    rw (← c.is_live.ensures.same, c.side-side.ensures.value) (turns (omega arith) (refl, refl, refl) (inr (record {
+      some = some;
+      chooses = owes_all stays.owes stays.asker refl (None, refl, (refl, chosen.chooses, stays));
+    })))

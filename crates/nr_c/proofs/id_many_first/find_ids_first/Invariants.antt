@@ -1,4 +1,4 @@
-use Rattle.std.specs.Prelude.{◌≡◌, All, None, length, replicate}
+use Rattle.std.specs.Prelude.{◌≡◌, All, None, replicate}
 use Rattle.nr_idmap.specs.IdHands.{hand_table_of}
 use Rattle.nr_idmap.specs.IdWalks.{IsNear}
 use Rattle.nr_c.specs.IdManyFirst.{FindsIdAtFirst}
@@ -9,7 +9,6 @@ abbrev pub invariant-loop-place : goal.invariant-loop-place
 invariant-loop-place l = record {
   own : hand_table_of l.hand ≡ l.map;
   near : All (IsNear l.map.map.shape.keys) l.ways;
-  long : length l.rows ≡ length l.fn.rows;
   made : Made (FindsIdAtFirst l.room) (((l.fn.hand, replicate 16 None), l.fn.watch), l.fn.rows) l.fn.wanted l.place
       (((l.hand, l.ways), l.watch), l.rows) l.wanted;
 }

@@ -1,6 +1,6 @@
-use Rattle.std.proofs.Common.{◌≡◌, ◌∙◌, [], ◌∷◌, ap, append-nil, arith, inl, inr, refl, sym, List, get_or, length}
+use Rattle.std.proofs.Common.{◌≡◌, [], Some, append-nil, arith, inl, inr, refl}
 use Rattle.std.proofs.lemmas.Grind.{common_steps}
-use Rattle.std.proofs.lemmas.List.{get_or_append_left, length-append}
+use Rattle.std.proofs.lemmas.List.Elements.{All-pop}
 use Rattle.nr_idmap.specs.Keepers.{IdCaller, id_table_of}
 use Rattle.nr_c.proofs.id_open.nr_open_id_reader.Goals as goal
 
@@ -14,8 +14,7 @@ pub returns-in_default : goal.returns-in_default
 returns-in_default c =
     let none : c.side-side.result.now.spare.items ≡ []
     = grind (arith, common_steps, c.in_default.ensures.items, c.in_default.ensures.variant) in
-    let left : c.pop.new.self.items ≡ []
-    = sym (append-nil c.pop.new.self.items) ∙ sym c.in_default.ensures.items ∙ none in
+    let left : c.pop.new.self.items ≡ [] = cc (append-nil c.pop.new.self.items, c.in_default.ensures.items) in
     rw (← c.is_live.ensures.same, c.side-side.ensures.value, ← c.is_live-2.ensures.same, c.if-is_live.ensures.empty)
     (inr (inr (tt, refl, inl (refl, ((refl, refl, refl, refl), (none, left)), refl))))
 
@@ -23,29 +22,19 @@ returns-in_default c =
 pub invariant_of-side-in-Ok-1 : goal.invariant_of-side-in-Ok-1
 invariant_of-side-in-Ok-1 c =
     let side = c.side-side.result.now in
-    let rest = c.pop.new.self.items in
     record {
       own = side.own;
-      spares = λ k d low.
-          ap id_table_of
-          (sym (get_or_append_left rest (c.in-Some.next ∷ []) d k low)
-          ∙ ap (λ (readers : List IdCaller). get_or readers k d) (sym c.in-Some.ensures.items))
-          ∙ side.spares k d
-          (omega (arith, low, ap length c.in-Some.ensures.items, length-append rest (c.in-Some.next ∷ [])));
+      spares =
+          (All-pop (λ (reader : IdCaller). id_table_of reader ≡ side.map.value) side.spare.items c.pop.new.self.items
+          (Some c.in-Some.next) c.in-Some.ensures.items side.spares).0;
       owed = side.owed;
     }
 
 pub returns-in-Ok : goal.returns-in-Ok
 returns-in-Ok c =
     let (shared, reader) = c.in-Ok.ensures.ok in
-    rw (
-      ← c.is_live.ensures.same,
-      c.side-side.ensures.value,
-      ← c.is_live-2.ensures.same,
-      c.if-is_live.ensures.empty,
-      c.lead_to.ensures,
-    )
-    (inr (inr (
+    rw (← c.is_live.ensures.same, c.side-side.ensures.value, ← c.is_live-2.ensures.same, c.if-is_live.ensures.empty)
+    (rw c.lead_to.ensures (inr (inr (
       tt,
       refl,
       inr (inl (
@@ -55,7 +44,7 @@ returns-in-Ok c =
         ((refl, refl, refl, refl), (c.in-Some.ensures.items, refl)),
         (shared, reader, c.in-Ok.ensures.watch.0, c.in-Ok.ensures.watch.1),
       )),
-    )))
+    ))))
 
 pub returns-in-Err : goal.returns-in-Err
 returns-in-Err c =

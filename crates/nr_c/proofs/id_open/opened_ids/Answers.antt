@@ -1,5 +1,4 @@
-use Rattle.std.proofs.Common.{rules, ◌≡◌, ◌∙◌, subst, sym}
-use Rattle.std.specs.Prelude.{All}
+use Rattle.std.proofs.Common.{rules, ◌≡◌, ◌∙◌, subst, sym, All}
 use Rattle.nr_idmap.specs.Keepers.{IdTable, id_table_of}
 use Rattle.nr_c.specs.Ledgers.{AreOf, Entries}
 use Rattle.nr_c.proofs.LedgerLemmas.{none_is_of_any}

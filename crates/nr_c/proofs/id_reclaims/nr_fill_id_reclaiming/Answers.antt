@@ -1,6 +1,6 @@
 use Rattle.std.proofs.Common.{Err, Ok, inl, inr, refl}
 use Rattle.nr_idmap.specs.declared.upqueries.Unfilled.TheVariants as unfilled
-use Rattle.nr_c.proofs.KeptUpqueries.{ends_kept}
+use Rattle.nr_c.proofs.KeptUpqueries.{fill_ends}
 use Rattle.nr_c.proofs.id_reclaims.nr_fill_id_reclaiming.Goals as goal
 
 pub returns-then-not-is_own : goal.returns-then-not-is_own
@@ -29,11 +29,10 @@ returns-in_default-give_up c =
 pub returns-in-Ok : goal.returns-in-Ok
 returns-in-Ok c =
     let rows = rw (c.rows.ensures, c.deref.ensures, ← c.side-side.result.now.own) at c.in_default.ensures in
-    let gives_up = c.in-Some-give_up.ensures in
-    let kept = ends_kept gives_up (Ok c.in-Ok.given) c.of_reclaimed.ensures c.in-Ok.ensures.fills refl in
     rw (← c.is_live.ensures.same, c.side-side.ensures.value) (inr (
       (refl, refl, refl),
-      inr (c.if-not-is_own.ensures.own, inr (rows, inr kept)),
+      fill_ends c.in-Some-give_up.ensures (Ok c.in-Ok.given) c.of_reclaimed.ensures c.in-Ok.ensures.fills refl
+          c.if-not-is_own.ensures.own rows,
     ))
 
 pub returns-in-Err-Closed : goal.returns-in-Err-Closed
@@ -42,13 +41,7 @@ returns-in-Err-Closed c =
     let fills = rw c.in-Err-Closed.field-0-is at c.in-Err-Closed.ensures.fills in
     rw (← c.is_live.ensures.same, c.side-side.ensures.value) (inr (
       (refl, refl, refl),
-      inr (
-        c.if-not-is_own.ensures.own,
-        inr (
-          rows,
-          inr (ends_kept c.in-Some-give_up.ensures (Err unfilled.Closed) refl fills refl),
-        ),
-      ),
+      fill_ends c.in-Some-give_up.ensures (Err unfilled.Closed) refl fills refl c.if-not-is_own.ensures.own rows,
     ))
 
 pub returns-in-Err-NoSlot : goal.returns-in-Err-NoSlot
@@ -58,11 +51,6 @@ returns-in-Err-NoSlot c =
     let back = unfilled.NoSlot c.in-Err-NoSlot.opened c.in-Err-NoSlot.counts in
     rw (← c.is_live.ensures.same, c.side-side.ensures.value) (inr (
       (refl, refl, refl),
-      inr (
-        c.if-not-is_own.ensures.own,
-        inr (
-          rows,
-          inr (ends_kept c.in-Some-give_up.ensures (Err back) c.of_no_slot.ensures fills c.keep.ensures),
-        ),
-      ),
+      fill_ends c.in-Some-give_up.ensures (Err back) c.of_no_slot.ensures fills c.keep.ensures
+          c.if-not-is_own.ensures.own rows,
     ))

@@ -1,4 +1,4 @@
-use Rattle.std.proofs.Common.{inl, inr, refl}
+use Rattle.std.proofs.Common.{inr, refl}
 use Rattle.nr_idmap.specs.declared.upqueries.Withdrawn.TheVariants as withdrawn
 use Rattle.nr_c.proofs.KeptUpqueries.{ends_kept}
 use Rattle.nr_c.proofs.id_upqueries.take_back.Goals as goal

@@ -1,5 +1,5 @@
 use Rattle.std.proofs.Common.{arith, inl, inr, refl}
-use Rattle.nr_c.proofs.KeptUpqueries.{owes_all}
+use Rattle.nr_c.proofs.KeptUpqueries.{owes_all, turns}
 use Rattle.nr_c.proofs.id_writes.nr_update_id.Goals as goal
 
 pub returns-in-Some : goal.returns-in-Some
@@ -13,11 +13,5 @@ returns c =
     let updates = rw (c.deref.ensures, ← c.side-side.result.now.own) at c.update.ensures.updates in
     let made = c.update in
     rw (← c.is_live.ensures.same, c.side-side.ensures.value)
-    (inr (inr (
-      omega arith,
-      (
-        (refl, refl, refl),
-        owes_all made.ensures.owes made.ensures.asker refl
-            (inr (c.in_default.ensures, (made.result, c.of_id_update.ensures, updates))),
-      ),
-    )))
+    (turns (omega arith) (refl, refl, refl) (owes_all made.ensures.owes made.ensures.asker refl
+    (inr (c.in_default.ensures, (made.result, c.of_id_update.ensures, updates)))))

@@ -1,4 +1,4 @@
-use Rattle.std.proofs.Common.{ℕ, ◌≡◌, ◌<◌, ◌≤◌, Err, IfErr, MatchResult, Ok, Result, arith, inl, inr, refl}
+use Rattle.std.proofs.Common.{◌<◌, ◌≤◌, Err, IfErr, MatchResult, Ok, Result, arith, inl, inr, refl}
 use Rattle.nr_trigger.specs.declared.faults.PostFault.{PostFault}
 use Rattle.nr_c.proofs.posts.nr_post.Goals as goal
 

@@ -1,4 +1,4 @@
-use Rattle.std.proofs.Common.{◌≡◌, ◌∙◌, [], ◌∷◌, ap, append-nil, arith, inl, inr, refl, sym}
+use Rattle.std.proofs.Common.{◌≡◌, [], append-nil, arith, inl, inr, refl}
 use Rattle.std.proofs.lemmas.Grind.{common_steps}
 use Rattle.nr_c.proofs.queues.nr_open_poster.Goals as goal
 
@@ -12,21 +12,14 @@ pub returns-in_default : goal.returns-in_default
 returns-in_default c =
     let none : c.side-side.result.now.spare.items ≡ []
     = grind (arith, common_steps, c.in_default.ensures.items, c.in_default.ensures.variant) in
-    let left : c.pop.new.self.items ≡ []
-    = sym (append-nil c.pop.new.self.items) ∙ sym c.in_default.ensures.items ∙ none in
+    let left : c.pop.new.self.items ≡ [] = cc (append-nil c.pop.new.self.items, c.in_default.ensures.items) in
     rw (← c.is_live.ensures.same, c.side-side.ensures.value, ← c.is_live-2.ensures.same, c.if-is_live.ensures.empty)
     (inr (inr (tt, refl, inl (refl, ((refl, refl), (none, left)), refl))))
 
 pub returns-in-Ok : goal.returns-in-Ok
 returns-in-Ok c =
-    rw (
-      ← c.is_live.ensures.same,
-      c.side-side.ensures.value,
-      ← c.is_live-2.ensures.same,
-      c.if-is_live.ensures.empty,
-      c.lead_to.ensures,
-    )
-    (inr (inr (
+    rw (← c.is_live.ensures.same, c.side-side.ensures.value, ← c.is_live-2.ensures.same, c.if-is_live.ensures.empty)
+    (rw c.lead_to.ensures (inr (inr (
       tt,
       refl,
       inr (inl (
@@ -36,7 +29,7 @@ returns-in-Ok c =
         ((refl, refl), (c.in-Some.ensures.items, refl)),
         c.in-Ok.ensures.ok,
       )),
-    )))
+    ))))
 
 pub returns-in-Err : goal.returns-in-Err
 returns-in-Err c =

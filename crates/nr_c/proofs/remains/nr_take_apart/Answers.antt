@@ -21,14 +21,8 @@ close-map-requires c = (_, refl)
 pub returns : goal.returns
 returns c =
     let same = c.close-map.ensures.ends c.side.result.now refl in
-    rw (
-      ← c.is_live.ensures.same,
-      c.side.ensures.value,
-      ← c.is_live-2.ensures.same,
-      c.if-is_live.ensures.empty,
-      c.lead_to.ensures,
-    )
-    (inr (inr (
+    rw (← c.is_live.ensures.same, c.side.ensures.value, ← c.is_live-2.ensures.same, c.if-is_live.ensures.empty)
+    (rw c.lead_to.ensures (inr (inr (
       tt,
       refl,
       inr (
@@ -43,4 +37,4 @@ returns c =
           watch = subst (λ (held : WriterSide). HasEnded held.watch) same c.leave.ensures;
         },
       ),
-    )))
+    ))))

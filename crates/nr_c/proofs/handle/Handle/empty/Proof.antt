@@ -1,11 +1,10 @@
 -- `empty` puts null beside its allocator, and owns nothing with it.
-use Rattle.nr_c.proofs.Walks.{Bx, Clauses, Ended, Fn, Item, List, Logic, P, Ptr, RawPtr, Stays, Tables, Ura, Val}
-use Rattle.nr_c.proofs.Walks.{Valss, WpFn, [], !, agg, alloc_all, and_then, by, done, drop, emp, ends_at, ent, enter}
-use Rattle.nr_c.proofs.Walks.{feq_i, fjoin, fpack, free_all, fsep, fsplit, ftrue, get, handle_tells, has_ty, id⊢}
-use Rattle.nr_c.proofs.Walks.{inst_fn, join, lit, lit<, look_at, move, no_more, nothing, null_ptr, owning, pass_all}
-use Rattle.nr_c.proofs.Walks.{ptr_val, qed, raw, refl, returns, says, sets, shape, split, subst, suffices, sym}
-use Rattle.nr_c.proofs.Walks.{type_at, use1, vcons, vnil, vnull, vstruct, walk_of, within, yes, α, ‵, ◌$◌, ◌++◌, ◌∵◌}
-use Rattle.nr_c.proofs.Walks.{◌∷◌, ◌≡◌, ◌⊛◌}
+use Rattle.nr_c.proofs.Walks.{Bx, Clauses, Ended, Fn, Item, List, Logic, P, Ptr, RawPtr, Stays, Tables, Ura, Val, Valss}
+use Rattle.nr_c.proofs.Walks.{WpFn, [], !, agg, alloc_all, and_then, by, done, drop, emp, ends_at, ent, enter, feq_i}
+use Rattle.nr_c.proofs.Walks.{fjoin, fpack, free_all, fsep, fsplit, ftrue, get, handle_tells, has_ty, id⊢, inst_fn}
+use Rattle.nr_c.proofs.Walks.{join, lit, lit<, look_at, move, no_more, nothing, null_ptr, owning, pass_all, ptr_val}
+use Rattle.nr_c.proofs.Walks.{qed, raw, refl, returns, says, sets, shape, split, subst, suffices, sym, type_at, use1}
+use Rattle.nr_c.proofs.Walks.{vcons, vnil, vnull, vstruct, walk_of, within, yes, α, ‵, ◌$◌, ◌++◌, ◌∵◌, ◌∷◌, ◌≡◌, ◌⊛◌}
 use Rattle.std_alloc.proofs.ResultValues.{and_tt}
 use Rattle.std_heap.specs.contracts.Global as Heap
 use Rattle.nr_c.proofs.HandleMet.{asks_and_gives, at_token, stays, taken, takes}

@@ -1,6 +1,5 @@
 -- `handle` lends the word as a `Handle`, and the handle follows it.
-use mathlib.Core.Path.{refl}
-use denote.Memory.{part_of}
+use Rattle.nr_c.proofs.Walks.{part_of, refl}
 use Rattle.nr_c.specs.NamedHandles.{poster}
 use Rattle.nr_c.proofs.HandleLent.{called}
 use Rattle.nr_c.specs.contracts.poster_handle.NrPoster.handle.Key.{name as #self}

@@ -1,6 +1,5 @@
 -- `handle` lends the word as a `Handle`, and the handle follows it.
-use mathlib.Core.Path.{refl}
-use denote.Memory.{part_of}
+use Rattle.nr_c.proofs.Walks.{part_of, refl}
 use Rattle.nr_c.specs.NamedHandles.{taker}
 use Rattle.nr_c.proofs.HandleLent.{called}
 use Rattle.nr_c.specs.contracts.taker_handle.NrTaker.handle.Key.{name as #self}
