@@ -29,7 +29,7 @@ from typing import NamedTuple
 import kit
 from functions import files_of
 
-WHOLE = 90  # wrong bodies, at most, of a crate that is tried as one part: what they call is proved once
+WHOLE = 100  # wrong bodies, at most, of a crate that is tried as one part: what they call is proved once
 PART = 54  # wrong bodies, at most, of another's
 LONG = 15  # seconds that a wrong body takes which is told
 HEAD = re.compile(r"[^#/]*\bfn \w+")
