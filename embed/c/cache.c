@@ -1,7 +1,8 @@
 /* A cache of strings before a slow query: an id is a key's hash, and its value an entry's address. Threads find without
    a lock, and share one for what a miss or a change needs. Of those that miss a key one queries, and the others wait for
-   it. Whoever frees an entry has been given it: it left the cache, and nobody looks at it. Copy it, include nr.h as your
-   compiler finds it, write a query, open the cache by `shape`, and open each thread a reader under the lock. */
+   it. Whoever frees an entry has been given it: it left the cache, and nobody looks at it. In sharing.c threads share it.
+   Copy it, include nr.h as your compiler finds it, write a query, open the cache by `shape`, and open each thread a
+   reader under the lock. */
 #include "../../include/nr.h"
 #include <pthread.h>
 #include <stdlib.h>
