@@ -3,6 +3,7 @@ use std::iter::Chain;
 use std::{option, vec};
 
 /// The first takes no memory of its own, and so none is asked for under a part's lock.
+#[repr(C)]
 pub(super) struct Handful<T> {
     first: Option<T>,
     others: Vec<T>,

@@ -1,11 +1,13 @@
 //! The lock of a part, under which keys are compared, and keys and values cloned for threads without a reader.
-use super::sync::{look_often, Mutex, MutexGuard};
+use super::sync::{lock_soon, Mutex, MutexGuard};
 use std::ops::{Deref, DerefMut};
 use std::sync::atomic::{AtomicUsize, Ordering::Relaxed};
 use std::sync::PoisonError;
 
 /// A lock that a thread takes once at a time: where an `Eq` or a `Clone` that runs under it calls the same cache, the call
-/// panics and doesn't wait for its own thread.
+/// panics and doesn't wait for its own thread. The holder's word lies beside the mutex and what that guards, so that they come
+/// from another processor together.
+#[repr(C)]
 pub(super) struct Lock<T> {
     /// The thread that has it, or `NOBODY`.
     holder: AtomicUsize,
@@ -33,8 +35,7 @@ impl<T> Lock<T> {
             "an `Eq` of a cache's keys, or a `Clone` of its keys or values, calls the cache"
         );
         // To sleep until its holder wakes a thread takes longer than a holder mostly has it.
-        look_often(|| self.holder.load(Relaxed) == NOBODY);
-        let inner = self.inner.lock().unwrap_or_else(PoisonError::into_inner);
+        let inner = lock_soon(&self.inner, || self.holder.load(Relaxed) == NOBODY);
         self.holder.store(thread, Relaxed);
         Locked { holder: &self.holder, inner }
     }

@@ -12,6 +12,7 @@ mod flights;
 mod handful;
 mod hold;
 mod kept;
+mod landings;
 mod leaving;
 mod loaded;
 mod lock;

@@ -263,8 +263,7 @@ impl<K, V> Part<K, V> {
         let landed = self.change(|store| {
             load.is_over.store(true, Relaxed);
             store.reaping.lands();
-            store.counted.loads += 1;
-            store.counted.load_time += took;
+            store.landings.count(took);
             let ended = match load.kind {
                 Kind::Flight(number) => store.land(number, entry),
                 Kind::Beside(beside) => store.refresh(beside, entry),
@@ -374,7 +373,10 @@ impl<K, V> Part<K, V> {
 
     /// All but what readers count.
     pub fn stats(&self) -> CacheStats {
-        CacheStats { expired: self.expired.load(Relaxed), ..self.store().counted }
+        let store = self.store();
+        let mut stats = CacheStats { expired: self.expired.load(Relaxed), ..store.counted };
+        store.landings.add_to(&mut stats);
+        stats
     }
 
     /// All entries, of a cache that nobody uses any more.

@@ -9,9 +9,10 @@ pub(super) type Seat = u32;
 
 /// Which ids sit where. A free seat has the id that sat there last, whose entry, where it has one, tells that it sits
 /// elsewhere.
+#[repr(C)]
 pub(super) struct Seats {
-    ids: Vec<u64>,
     free: Vec<Seat>,
+    ids: Vec<u64>,
 }
 
 impl Seats {

@@ -5,6 +5,7 @@ use super::expiry::{seat_of, Expiry, Moment};
 use super::flights::End;
 use super::handful::Handful;
 use super::kept::KeptEntries;
+use super::landings::Landings;
 use super::leaving::RemovalCause;
 use super::reaping::Reaping;
 use super::seats::Seats;
@@ -27,27 +28,30 @@ pub(super) fn place_of<K, V>(number: u64) -> Place<K, V> {
     NonNull::new(number as *mut Entry<K, V>).expect("a number is an entry's address")
 }
 
-/// In this order, so that what each miss writes lies together: most often another processor wrote it last.
+/// In this order, so that what each miss writes lies together: most often another processor wrote it last. What is rarely
+/// written comes behind it.
 #[repr(C)]
 pub(super) struct Store<K, V> {
     pub ids: Ids,
     /// How many entries there are: those that are held, and those that left and haven't come out.
     lying: usize,
-    /// How many entries were put, and how many when all were invalidated last.
+    /// How many entries were put.
     pub turns: u64,
-    turns_before: u64,
-    /// How much its entries weigh together at most, where weights count.
-    pub most: Option<u64>,
-    pub under_way: UnderWay<K>,
     pub reaping: Reaping,
+    pub landings: Landings,
+    pub under_way: UnderWay<K>,
     pub seats: Seats,
     /// What came out: no reader holds it, and none can find it.
     came_out: Handful<Place<K, V>>,
-    kept: KeptEntries<K, V>,
-    /// All but what readers count.
+    /// All but what readers and landings count.
     pub counted: CacheStats,
+    kept: KeptEntries<K, V>,
     /// How often all loads were outdated.
     clearings: u64,
+    /// How many entries had been put when all were invalidated last.
+    turns_before: u64,
+    /// How much its entries weigh together at most, where weights count.
+    pub most: Option<u64>,
     pub expiry: Expiry,
 }
 
@@ -64,15 +68,16 @@ impl<K, V> Store<K, V> {
             ids,
             lying: 0,
             turns: 0,
-            turns_before: 0,
-            most,
-            under_way: UnderWay::new(),
             reaping,
+            landings: Landings::default(),
+            under_way: UnderWay::new(),
             seats: Seats::new(capacity),
             came_out: Handful::default(),
-            kept: KeptEntries::new(),
             counted: CacheStats::default(),
+            kept: KeptEntries::new(),
             clearings: 0,
+            turns_before: 0,
+            most,
             expiry,
         }
     }
@@ -275,7 +280,7 @@ impl<K, V> Store<K, V> {
             Put::Held(old) => {
                 self.lying += 1;
                 old.into_iter().for_each(|out| self.comes_out(out));
-                self.counted.evictions += (wanted - self.held()) as u64;
+                self.landings.evictions += (wanted - self.held()) as u64;
                 Ok(place)
             }
             Put::Own => {
@@ -374,6 +379,10 @@ impl<K, V> Store<K, V> {
         if self.reaping.is_due(waiting) {
             let still = self.look_for(waiting);
             self.reaping.looked(still);
+        }
+        // Mostly nothing did, and then nothing is written.
+        if self.came_out.is_empty() {
+            return Handful::default();
         }
         // SAFETY: nobody can see them any more, and each came out once.
         take(&mut self.came_out).map(|place| unsafe { Box::from_raw(place.as_ptr()) })

@@ -3,14 +3,17 @@
 //! They are std's and nothing, but in a build of the tests, which step them.
 #[cfg(test)]
 pub(crate) use crate::tests::sync::{
-    changes_store, look_often, now, reads_store, sees, Condvar, Mutex, MutexGuard, OnceLock,
+    changes_store, lock_soon, look_often, now, reads_store, sees, Condvar, Mutex, MutexGuard, OnceLock,
 };
 #[cfg(not(test))]
-pub(crate) use plain::{changes_store, look_often, now, reads_store, sees, Condvar, Mutex, MutexGuard, OnceLock};
+pub(crate) use plain::{
+    changes_store, lock_soon, look_often, now, reads_store, sees, Condvar, Mutex, MutexGuard, OnceLock,
+};
 
 #[cfg(not(test))]
 mod plain {
     pub(crate) use std::sync::{Condvar, Mutex, MutexGuard, OnceLock};
+    use std::sync::{PoisonError, TryLockError};
     use std::time::Instant;
 
     /// How often who waits looks before it sleeps: about as long as a sleep and a wake-up take.
@@ -24,6 +27,22 @@ mod plain {
             }
             std::hint::spin_loop();
         }
+    }
+
+    /// Takes a lock, also after a panic. Where another has it, it tries when the lock looks free, and sleeps after a hundred
+    /// looks.
+    pub(crate) fn lock_soon<T>(lock: &Mutex<T>, looks_free: impl Fn() -> bool) -> MutexGuard<'_, T> {
+        for _ in 0..LOOKS {
+            if looks_free() {
+                match lock.try_lock() {
+                    Ok(guard) => return guard,
+                    Err(TryLockError::Poisoned(why)) => return why.into_inner(),
+                    Err(TryLockError::WouldBlock) => {}
+                }
+            }
+            std::hint::spin_loop();
+        }
+        lock.lock().unwrap_or_else(PoisonError::into_inner)
     }
 
     /// The time by which waits end, and entries expire.

@@ -175,6 +175,11 @@ pub(crate) fn look_often(is_so: impl Fn() -> bool) {
     _ = is_so();
 }
 
+/// Locks at once, since each look is a step.
+pub(crate) fn lock_soon<T>(lock: &Mutex<T>, _looks_free: impl Fn() -> bool) -> MutexGuard<'_, T> {
+    lock.lock().unwrap_or_else(PoisonError::into_inner)
+}
+
 pub(crate) fn now() -> Instant {
     steps::now()
 }
