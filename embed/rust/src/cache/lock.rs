@@ -29,15 +29,18 @@ impl<T> Lock<T> {
 
     pub fn lock(&self) -> Locked<'_, T> {
         let thread = this_thread();
-        // No other thread ever writes this one's number there.
-        assert!(
-            self.holder.load(Relaxed) != thread,
-            "an `Eq` of a cache's keys, or a `Clone` of its keys or values, calls the cache"
-        );
         // To sleep until its holder wakes a thread takes longer than a holder mostly has it.
-        let inner = lock_soon(&self.inner, || self.holder.load(Relaxed) == NOBODY);
+        let inner = lock_soon(&self.inner, || self.looks_free(thread));
         self.holder.store(thread, Relaxed);
         Locked { holder: &self.holder, inner }
+    }
+
+    /// Whether nobody seems to have it, as that thread asks, which doesn't have it itself.
+    fn looks_free(&self, thread: usize) -> bool {
+        let holder = self.holder.load(Relaxed);
+        // No other thread ever writes this one's number there.
+        assert!(holder != thread, "an `Eq` of a cache's keys, or a `Clone` of its keys or values, calls the cache");
+        holder == NOBODY
     }
 
     pub fn get_mut(&mut self) -> &mut T {

@@ -29,16 +29,28 @@ mod plain {
         }
     }
 
-    /// Takes a lock, also after a panic. Where another has it, it tries when the lock looks free, and sleeps after a hundred
-    /// looks.
+    /// Takes a lock, also after a panic. Where another has it, it tries again when the lock looks free, and sleeps after a
+    /// hundred looks.
+    #[inline]
     pub(crate) fn lock_soon<T>(lock: &Mutex<T>, looks_free: impl Fn() -> bool) -> MutexGuard<'_, T> {
+        try_lock(lock).unwrap_or_else(|| lock_later(lock, looks_free))
+    }
+
+    #[inline]
+    fn try_lock<T>(lock: &Mutex<T>) -> Option<MutexGuard<'_, T>> {
+        match lock.try_lock() {
+            Ok(guard) => Some(guard),
+            Err(TryLockError::Poisoned(why)) => Some(why.into_inner()),
+            Err(TryLockError::WouldBlock) => None,
+        }
+    }
+
+    #[cold]
+    fn lock_later<T>(lock: &Mutex<T>, looks_free: impl Fn() -> bool) -> MutexGuard<'_, T> {
         for _ in 0..LOOKS {
-            if looks_free() {
-                match lock.try_lock() {
-                    Ok(guard) => return guard,
-                    Err(TryLockError::Poisoned(why)) => return why.into_inner(),
-                    Err(TryLockError::WouldBlock) => {}
-                }
+            let locked = if looks_free() { try_lock(lock) } else { None };
+            if let Some(guard) = locked {
+                return guard;
             }
             std::hint::spin_loop();
         }

@@ -175,8 +175,9 @@ pub(crate) fn look_often(is_so: impl Fn() -> bool) {
     _ = is_so();
 }
 
-/// Locks at once, since each look is a step.
-pub(crate) fn lock_soon<T>(lock: &Mutex<T>, _looks_free: impl Fn() -> bool) -> MutexGuard<'_, T> {
+/// Locks after one look, as it would where another has the lock, since each try is a step.
+pub(crate) fn lock_soon<T>(lock: &Mutex<T>, looks_free: impl Fn() -> bool) -> MutexGuard<'_, T> {
+    _ = looks_free();
     lock.lock().unwrap_or_else(PoisonError::into_inner)
 }
 
