@@ -146,16 +146,17 @@ module _ (law : FindsWhatItHeard) (old new : IdHanded) (id way number : ℕ) (ro
   named_rows asked found.Pending first anew = ⊎_elim
       (λ gone. inl gone)
       (λ (same : Some anew.0.way ≡ Some way). let has = told_rows asked new.hand reply.Hole first
-      (at_way anew.0.way asked.hand new.hand reply.Hole same (found_hole anew.0.way asked.hand new.hand anew.2)) refl in
+      (at_way anew.0.way asked.hand new.hand reply.Hole same
+      (found_hole anew.0.way asked.hand new.hand anew.2.0)) refl in
       absurd (cc (has.1)))
       (looked_there asked (Some anew.0) first anew.1)
   named_rows asked found.Moved first anew = ⊎_elim
       (λ gone. inl gone)
-      (λ (same : Some anew.0.way ≡ Some way). let has = told_rows asked anew.1 (reply.Rows anew.1.rows) first
-      (at_way anew.0.way asked.hand anew.1 (reply.Rows anew.1.rows) same
-      (found_rows anew.0.way asked.hand anew.1 anew.3)) anew.5.rests.seen in
-      absurd (anew.4 has.0 (cc (has.1))))
-      (looked_there asked (Some anew.0) first anew.2)
+      (λ (same : Some anew.0.way ≡ Some way). let has = told_rows asked anew.2.0 (reply.Rows anew.2.0.rows) first
+      (at_way anew.0.way asked.hand anew.2.0 (reply.Rows anew.2.0.rows) same
+      (found_rows anew.0.way asked.hand anew.2.0 anew.2.1)) anew.2.3.rests.seen in
+      absurd (anew.2.2 has.0 (cc (has.1))))
+      (looked_there asked (Some anew.0) first anew.1)
   named_rows asked found.Absent first anew = ⊎_elim
       (λ gone. inl gone)
       (λ (there : None ≡ Some way). absurd (cc (there)))

@@ -12,6 +12,7 @@ mod Batches
 mod LookUps
 mod Finding
 mod Walking
+mod Holding
 mod Opening
 mod Giving
 mod Heard

@@ -6,6 +6,7 @@ use Rattle.nr_board.specs.declared.answers.Found.{Found}
 use Rattle.nr_board.specs.declared.answers.Found.TheVariants as answer
 use Rattle.nr_map.specs.LoadsAhead.{load_of, with_loads}
 use Rattle.nr_map.specs.Hands.{AsksInVain, FindsHeld, FindsKept, Handed, LetsGo, idle}
+use Rattle.nr_ids.specs.Answers.{LooksUp}
 use Rattle.nr_ids.specs.Marks.{Marks, SetsMark}
 use Rattle.nr_ids.specs.Tokens.{Token}
 use Rattle.nr_idmap.specs.declared.finds.FoundId.{FoundId}
@@ -112,22 +113,35 @@ KeepsWay way old new told =
     (before set : List Row) × FindsKept (λ (sorted : List Row) (rows : List Row). sorted ≡ rows) way old before new set
     told
 
--- by the id's name: the set is held that has the id's tag, and the way is marked as found unless it was; else nothing
--- is, since the way was a hole or had another's set, or there was a moment at which the id had no way
+-- in the way that had the id's name: the set is held that has the id's tag; else nothing is, since the way was a hole
+-- or had another's set
+abbrev pub HoldsInWay : ℕ → ℕ → IdHanded → IdHanded → FoundId → Type 0
+HoldsInWay way id old new found.Rows =
+    (rows : List Row) × KeepsWay way old.hand new.hand answer.Rows × (new.hand.rows ≡ tag_of id ∷ rows)
+    × (new.id ≡ Some id)
+HoldsInWay way id old new found.Pending = KeepsWay way old.hand new.hand answer.Hole × (new.id ≡ None)
+HoldsInWay way id old new found.Moved =
+    (kept : Handed) × KeepsWay way old.hand kept answer.Rows × ((rows : List Row) → kept.rows ≢ tag_of id ∷ rows)
+    × LetsGo kept new.hand × (new.id ≡ None)
+HoldsInWay way id old new found.Absent = ⊥
+
+-- by the id's name, in its way, which is marked as found if the set is held, unless it was marked; or nothing is held,
+-- since there was a moment at which the id had no way
 abbrev pub HoldsByName : ℕ → IdHanded → IdHanded → FoundId → Type 0
 HoldsByName id old new found.Rows =
-    (at : NamedWay) × (rows : List Row) × (looked : Token) × LooksForWay id old.ids looked (Some at)
-    × KeepsWay at.way old.hand new.hand answer.Rows × (new.hand.rows ≡ tag_of id ∷ rows)
-    × SetsMark at.way at.is_marked looked new.ids × (new.id ≡ Some id)
-HoldsByName id old new found.Pending =
-    (at : NamedWay) × LooksForWay id old.ids new.ids (Some at) × KeepsWay at.way old.hand new.hand answer.Hole
-    × (new.id ≡ None)
-HoldsByName id old new found.Moved =
-    (at : NamedWay) × (kept : Handed) × LooksForWay id old.ids new.ids (Some at)
-    × KeepsWay at.way old.hand kept answer.Rows × ((rows : List Row) → kept.rows ≢ tag_of id ∷ rows)
-    × LetsGo kept new.hand × (new.id ≡ None)
+    (at : NamedWay) × (looked : Token) × LooksForWay id old.ids looked (Some at)
+    × HoldsInWay at.way id old new found.Rows × SetsMark at.way at.is_marked looked new.ids
 HoldsByName id old new found.Absent =
     LooksForWay id old.ids new.ids None × LetsGo old.hand new.hand × (new.id ≡ None)
+HoldsByName id old new told =
+    (at : NamedWay) × LooksForWay id old.ids new.ids (Some at) × HoldsInWay at.way id old new told
+
+-- the same by a look-up that looks at no mark, and without marking the way
+abbrev pub HoldsByNameAlone : ℕ → IdHanded → IdHanded → FoundId → Type 0
+HoldsByNameAlone id old new found.Absent =
+    LooksUp id old.ids new.ids None × LetsGo old.hand new.hand × (new.id ≡ None)
+HoldsByNameAlone id old new told =
+    (way : ℕ) × LooksUp id old.ids new.ids (Some way) × HoldsInWay way id old new told
 
 -- the word of the first way of the id's group was loaded, as by a find
 abbrev pub with_line_loaded : ℕ → ℕ → IdHanded → IdHanded
@@ -136,8 +150,14 @@ with_line_loaded id word old =
       hand = record old.hand { reader = with_loads (load_of (line_of id old.ids) word ∷ []) old.hand.reader };
     }
 
+abbrev pub LoadsLine : ℕ → IdHanded → IdHanded → Type 0
+LoadsLine id old new = (word : ℕ) × (new ≡ with_line_loaded id word old)
+
 abbrev pub HoldsAnew : ℕ → IdHanded → IdHanded → FoundId → Type 0
 HoldsAnew id old new told = (word : ℕ) × HoldsByName id (with_line_loaded id word old) new told
+
+abbrev pub HoldsUnmarked : ℕ → IdHanded → IdHanded → FoundId → Type 0
+HoldsUnmarked id old new told = (word : ℕ) × HoldsByNameAlone id (with_line_loaded id word old) new told
 
 -- the way whose set is held is marked as found unless it is
 pub record MarksHeld (old new : IdHanded) : Type 0 where
@@ -152,6 +172,12 @@ abbrev pub PinsById : ℕ → IdHanded → IdHanded → FoundId → Type 0
 PinsById id old new told =
     ((told ≡ found.Rows) × (held : IdHanded) × FindsIdHeld id old held × MarksHeld held new)
     ⊎ ((asked : IdHanded) × AgainById id old asked false × HoldsAnew id asked new told)
+
+-- the same without a look at a mark, and without one that is set
+abbrev pub HoldsById : ℕ → IdHanded → IdHanded → FoundId → Type 0
+HoldsById id old new told =
+    ((told ≡ found.Rows) × FindsIdHeld id old new)
+    ⊎ ((asked : IdHanded) × AgainById id old asked false × HoldsUnmarked id asked new told)
 
 -- such a find into a room, which has the id's rows then; else it stays
 abbrev pub FindsIdKept : {Room : Type 0} → (Room → List Row → Type 0) → ℕ → IdHanded → Room → IdHanded → Room → FoundId

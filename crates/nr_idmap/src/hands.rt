@@ -3,7 +3,7 @@ ghost use Rattle.std.specs.Prelude.{◌≡◌, ◌≢◌, ◌<◌, IsSome, None}
 ghost use Rattle.nr_model.specs.Rows.{IsRowSet};
 ghost use Rattle.nr_model.specs.declared.rows.TheConstants.{MAX_ROWS};
 ghost use Rattle.nr_ids.specs.Answers.{Requests};
-ghost use Rattle.nr_idmap.specs.IdHands.{AgainById, FindsIdKept, HoldsAnew, LetsGoById, MarksHeld, PinsById, hand_table_of, idle_by_id, reader_of, rows_in_hand};
+ghost use Rattle.nr_idmap.specs.IdHands.{AgainById, FindsIdKept, HoldsAnew, HoldsById, HoldsInWay, HoldsUnmarked, LetsGoById, LoadsLine, MarksHeld, PinsById, hand_table_of, idle_by_id, reader_of, rows_in_hand};
 ghost use Rattle.nr_idmap.specs.Keepers.{id_table_of};
 
 use crate::finds::FoundId;
@@ -148,6 +148,20 @@ impl IdHand {
         self.hold_anew(map, id)
     }
 
+    /// Finds an id and holds its set as `pin` does, but neither looks at the way's mark nor sets it: for who has
+    /// just put that set, and hasn't asked for it. Takes the steps of `pin` without those.
+    pub fn hold(&mut self, map: &IdMap, id: u64) -> FoundId
+        requires own { hand_table_of self.old ≡ map.now }
+        requires id { 0 < id }
+        ensures own { hand_table_of self.new ≡ map.now }
+        ensures holds { HoldsById id self.old self.new result }
+    {
+        if self.again(map, id) {
+            return FoundId::Rows;
+        }
+        self.hold_unmarked(map, id)
+    }
+
     /// As `pin`, and writes the rows into the caller's room, which stays as it is unless the answer is
     /// `Rows`.
     pub fn find_kept<R: RowRoom>(&mut self, map: &IdMap, id: u64, rows: &mut R) -> FoundId
@@ -194,19 +208,58 @@ impl IdHand {
         ensures own { hand_table_of self.new ≡ map.now }
         ensures holds { HoldsAnew id self.old self.new result }
     {
-        let first = map.directory.plan().first_way(id);
-        self.hand.load_key(&map.map, first);
+        self.load_line(map, id);
         let Some(at) = map.look_up(&mut self.ids, id) else {
             self.release(map);
             return FoundId::Absent;
         };
+        let found = self.hold_in(map, at.way, id);
+        if let FoundId::Rows = found {
+            map.directory.mark(&mut self.ids, at.way, at.is_marked);
+        }
+        found
+    }
+
+    // The same without a mark.
+    fn hold_unmarked(&mut self, map: &IdMap, id: u64) -> FoundId
+        requires own { hand_table_of self.old ≡ map.now }
+        requires id { 0 < id }
+        ensures own { hand_table_of self.new ≡ map.now }
+        ensures holds { HoldsUnmarked id self.old self.new result }
+    {
+        self.load_line(map, id);
+        let Some(way) = map.directory.look_up(&mut self.ids, id) else {
+            self.release(map);
+            return FoundId::Absent;
+        };
+        self.hold_in(map, way, id)
+    }
+
+    // Loads the word of the first way of the id's group.
+    fn load_line(&mut self, map: &IdMap, id: u64)
+        requires own { hand_table_of self.old ≡ map.now }
+        ensures own { hand_table_of self.new ≡ map.now }
+        ensures loads { LoadsLine id self.old self.new }
+    {
+        let first = map.directory.plan().first_way(id);
+        self.hand.load_key(&map.map, first);
+    }
+
+    // Finds what the way has that had the id's name, and holds it if it is the id's set.
+    fn hold_in(&mut self, map: &IdMap, way: u32, id: u64) -> FoundId
+        requires own { hand_table_of self.old ≡ map.now }
+        requires way { way < map.now.map.shape.keys }
+        requires id { 0 < id }
+        ensures own { hand_table_of self.new ≡ map.now }
+        ensures holds { HoldsInWay way id self.old self.new result }
+        ensures ids { self.new.ids ≡ self.old.ids }
+    {
         self.held = None;
-        match self.hand.find_kept(&map.map, at.way, &mut self.sorted) {
+        match self.hand.find_kept(&map.map, way, &mut self.sorted) {
             Found::Hole => FoundId::Pending,
             Found::Rows => {
                 if has_tag(self.sorted.as_slice(), id) {
-                    map.directory.mark(&mut self.ids, at.way, at.is_marked);
-                    self.held = Some(Holding { id, way: at.way });
+                    self.held = Some(Holding { id, way });
                     FoundId::Rows
                 } else {
                     self.hand.release(&map.map);

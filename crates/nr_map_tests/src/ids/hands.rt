@@ -118,6 +118,15 @@ impl Holder {
         self.holds(rt, id, rows);
     }
 
+    /// And so does who has put them, which marks nothing.
+    fn has_put<R: Abort>(&mut self, rt: &R, id: u64, rows: &[Row])
+        requires { 0 < id }
+    {
+        is_same(rt, &self.hand.hold(self.view.map(), id), &FoundId::Rows);
+        self.holds(rt, id, rows);
+        self.view.uses(rt, id, false);
+    }
+
     /// And so does one into a room.
     fn keeps<R: Abort>(&mut self, rt: &R, id: u64, rows: &[Row])
         requires { 0 < id }
@@ -199,6 +208,20 @@ fn what_stays_is_found_again(rt: HostRuntime) {
     holder.releases();
     holder.again(&rt, TWO, false);
     holder.pins(&rt, TWO, &[row(7, 7)]);
+    holder.close();
+}
+
+#[test]
+fn who_has_put_a_set_holds_it_and_marks_nothing(rt: HostRuntime) {
+    let mut holder = Holder::open(&rt, &PAIR);
+    holder.view.takes_in(&rt, ONE, &[row(5, 5)]);
+    holder.has_put(&rt, ONE, &[row(5, 5)]);
+    holder.has_put(&rt, ONE, &[row(5, 5)]);
+    holder.view.updates(&rt, ONE, &[plus(7, 7)], Ok(()));
+    holder.has_put(&rt, ONE, &[row(5, 5), row(7, 7)]);
+    let found = holder.hand.hold(holder.view.map(), TWO);
+    is_same(&rt, &found, &FoundId::Absent);
+    is_same(&rt, &holder.hand.id(), &None);
     holder.close();
 }
 
