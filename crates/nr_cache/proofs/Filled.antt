@@ -1,18 +1,18 @@
 -- How many values each call of the map's writer leaves: a fill one more at most, an eviction of one that is there one
 -- less, and none but a fill more than there were.
-use Rattle.std.proofs.Common.{◌≡◌, ◌+◌, ◌≤◌, ◌<◌, ◌==◌, ℕ, suc, Bool, false, List, [], ◌∷◌, length}
-use Rattle.std.proofs.Common.{refl, sym, ap, ◌∙◌, arith, cond, get_or, nat_lt}
+use Rattle.std.proofs.Common.{◌≡◌, ◌+◌, ◌≤◌, ◌<◌, ℕ, suc, false, List, [], ◌∷◌, length}
+use Rattle.std.proofs.Common.{refl, sym, ap, ◌∙◌, arith, get_or}
 use Rattle.std.specs.List.{count_by}
 use Rattle.std.proofs.lemmas.Bool.Decides.{nat_tests}
 use Rattle.nr_model.specs.declared.calls.Call.{Call}
-use Rattle.nr_model.specs.declared.calls.Call.TheVariants.{Find, Fill, Replace, Evict, Cancel}
+use Rattle.nr_model.specs.declared.calls.Call.TheVariants.{Fill, Replace, Evict}
 use Rattle.nr_model.specs.declared.calls.Reply.{Reply}
 use Rattle.nr_model.specs.declared.calls.Reply.TheVariants as reply
 use Rattle.nr_model.specs.declared.rows.Row.{Row}
 use Rattle.nr_model.specs.declared.states.KeyState.{KeyState}
-use Rattle.nr_model.specs.declared.states.KeyState.TheVariants.{Hole, Asked, Rows}
+use Rattle.nr_model.specs.declared.states.KeyState.TheVariants.{Hole}
 use Rattle.nr_model.specs.Histories.{is_done}
-use Rattle.nr_model.specs.Maps.{evict_reply, filled_count, is_filled_key, last_number, replaced, reply_at, state_after}
+use Rattle.nr_model.specs.Maps.{evict_reply, filled_count, is_filled_key, replaced, reply_at, state_after}
 use Rattle.nr_model.specs.Maps.{state_of}
 use Rattle.nr_model.proofs.HistoryLemmas.{count_by-cons}
 use Rattle.nr_core.specs.declared.calls.NoSlot.{NoSlot}

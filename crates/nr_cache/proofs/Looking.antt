@@ -1,6 +1,6 @@
 -- Each set that the writer brings is a value's, so each that is there is one; what looks tell of it and of its stamp.
 use Rattle.std.proofs.Common.{◌≡◌, ◌<◌, ◌==◌, ℕ, Bool, true, false, cond, List, [], ◌∷◌, length, inl, inr, ⊎_elim, sym}
-use Rattle.std.proofs.Common.{subst, arith, nat_lt, eq-eqb, Option, Some, None, refl, ap, ◌∙◌, drop}
+use Rattle.std.proofs.Common.{subst, arith, eq-eqb, Option, Some, None, refl, ap, ◌∙◌, drop}
 use Rattle.std.specs.List.{All}
 use Rattle.std.proofs.lemmas.Bool.{cases_eq}
 use Rattle.std.proofs.lemmas.Bool.Decides.{nat_tests}
@@ -8,15 +8,14 @@ use Rattle.std.proofs.lemmas.List.{length-set, length-replicate, get_or-replicat
 use Rattle.std.proofs.lemmas.List.Elements.{All-head, All-push, All-tail}
 use Rattle.nr_model.specs.declared.rows.Row.{Row}
 use Rattle.nr_model.specs.declared.calls.Call.{Call}
-use Rattle.nr_model.specs.declared.calls.Call.TheVariants.{Find, Fill, Update, Replace, Evict, Cancel}
+use Rattle.nr_model.specs.declared.calls.Call.TheVariants.{Find}
 use Rattle.nr_model.specs.declared.calls.Reply.{Reply}
 use Rattle.nr_model.specs.declared.states.KeyState.{KeyState}
-use Rattle.nr_model.specs.declared.states.KeyState.TheVariants.{Hole, Asked, Rows}
+use Rattle.nr_model.specs.declared.states.KeyState.TheVariants.{Hole, Rows}
 use Rattle.nr_model.specs.Histories.{Entry, after, entries_of}
-use Rattle.nr_model.specs.Maps.{PartialMap, call_key, last_number, next, state_after, state_of, find_reply}
+use Rattle.nr_model.specs.Maps.{PartialMap, call_key, next, state_after, state_of, find_reply}
 use Rattle.nr_model.proofs.HistoryLemmas.{state_of-next_other, state_of-next_same}
 use Rattle.nr_model.specs.declared.calls.Reply.TheVariants as reply
-use Rattle.nr_core.proofs.Choices.{on_test}
 use Rattle.nr_core.specs.Story.{entry}
 use Rattle.nr_core.specs.declared.shape.Shape.{Shape}
 use Rattle.nr_board.specs.Callers.{Caller, Gains, map_at_opening, map_seen}

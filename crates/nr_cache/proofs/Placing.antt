@@ -1,6 +1,6 @@
 -- How an id without a way gets one, and that what was put for it is there then. Where there are as many values as may
 -- be, or what comes is too heavy beside them, there is one that isn't the newcomer's, and its eviction makes room.
-use Rattle.std.proofs.Common.{◌≡◌, ℕ, zero, suc, inl, inr, List, ◌∷◌, None, Some, refl, sym, ap, ◌∙◌, subst, ◌<◌}
+use Rattle.std.proofs.Common.{◌≡◌, ℕ, inl, inr, List, ◌∷◌, None, Some, refl, sym, ap, ◌∙◌, subst, ◌<◌}
 use Rattle.std.proofs.Common.{Option, arith, [], Err}
 use Rattle.std.proofs.lemmas.Bool.{cases_eq}
 use Rattle.nr_model.specs.declared.rows.Row.{Row}

@@ -1,6 +1,6 @@
 -- What a call's answer and a way's name tell of the way's state: it has the rows that were put or found, a key with
 -- rows isn't passed over, and a way without a name has no value.
-use Rattle.std.proofs.Common.{◌≡◌, ◌<◌, ◌==◌, ℕ, zero, suc, Bool, cond, List, refl, sym, ap, ◌∙◌, subst, arith, None}
+use Rattle.std.proofs.Common.{◌≡◌, ◌<◌, ℕ, zero, suc, List, refl, sym, ap, ◌∙◌, subst, arith, None}
 use Rattle.std.proofs.Common.{◌≤◌, ◌⊎◌, ◌∷◌, Some, inl, inr, Option}
 use Rattle.std.proofs.lemmas.List.{get_or_past}
 use Rattle.std.proofs.lemmas.Bool.{cases_eq}

@@ -1,7 +1,7 @@
 -- What ways weigh after a step: a way that lost its value weighs nothing, one that got a value weighs that, and each
 -- other what it did.
 use Rattle.std.proofs.Common.{◌≡◌, ◌≢◌, ◌<◌, ◌≤◌, ℕ, zero, suc, List, [], ◌∷◌, inl, inr, None, refl, sym, ap, ◌∙◌}
-use Rattle.std.proofs.Common.{arith, length, get_or, set, Some, subst}
+use Rattle.std.proofs.Common.{arith, get_or, set, Some, subst}
 use Rattle.std.specs.List.{sum}
 use Rattle.std.proofs.lemmas.Bool.{cases_eq}
 use Rattle.std.proofs.lemmas.List.{get_or_past, get_or-set_other, get_or-set_same, length-set}
@@ -20,7 +20,7 @@ use Rattle.nr_idmap.specs.Tags.{set_at, IsResident, id_set_of, tag_of}
 use Rattle.nr_cache.specs.Places.{IsOther}
 use Rattle.nr_cache.specs.Weights.{Fits, Lightens, Load, OnlyValuesWeigh, value_at, weighs_at}
 use Rattle.nr_cache.proofs.Gone.{found_there}
-use Rattle.nr_cache.proofs.Ways.{evicted_none, below_or_past, HasRows, filled_has, replaced_has}
+use Rattle.nr_cache.proofs.Ways.{evicted_none, HasRows, filled_has, replaced_has}
 use Rattle.nr_cache.proofs.WriterCalls.{IsWriter, called, learnt_keeps, other_sets, writes}
 
 -- A LIST OF WEIGHTS

@@ -14,19 +14,31 @@ use Rattle.nr_cache.specs.declared.finds.FoundValue.{FoundValue}
 use Rattle.nr_cache.specs.Places.{IsGone}
 use Rattle.nr_idmap.specs.declared.finds.FoundId.{FoundId}
 use Rattle.nr_idmap.specs.declared.finds.FoundId.TheVariants as found
-use Rattle.nr_idmap.specs.IdHands.{IdHanded, PinsById, rows_in_hand}
+use Rattle.nr_idmap.specs.IdHands.{HoldsById, IdHanded, PinsById, rows_in_hand}
 
 -- the value of an id's rows, and its stamp
 abbrev pub tells_value : List Row → Option FoundValue
 tells_value [] = None
 tells_value (row ∷ rows) = Some (record { stamp = row.a; value = row.b })
 
--- a find of the id by the map: its set is held, whose value that is; or it was answered without rows
-pub record FindsValue (id : ℕ) (old new : IdHanded) (value : Option FoundValue) : Type 0 where
-  pub told : FoundId
-  pub pins : PinsById id old new told
-  pub is : told ≡ found.Rows → value ≡ tells_value (rows_in_hand new)
+-- the value of the set that is held, where a find of the map was answered with rows; else none
+pub record TellsFound (hand : IdHanded) (told : FoundId) (value : Option FoundValue) : Type 0 where
+  pub is : told ≡ found.Rows → value ≡ tells_value (rows_in_hand hand)
   pub none : told ≢ found.Rows → value ≡ None
+
+-- the value that such a find told, of which that says how it was made
+pub record FindsValueBy (made : FoundId → Type 0) (new : IdHanded) (value : Option FoundValue) : Type 0 where
+  pub told : FoundId
+  pub finds : made told
+  pub tells : TellsFound new told value
+
+-- of the id, whose set is held then, or that was answered without rows
+abbrev pub FindsValue : ℕ → IdHanded → IdHanded → Option FoundValue → Type 0
+FindsValue id old new value = FindsValueBy (PinsById id old new) new value
+
+-- and without marking what it found
+abbrev pub HoldsValue : ℕ → IdHanded → IdHanded → Option FoundValue → Type 0
+HoldsValue id old new value = FindsValueBy (HoldsById id old new) new value
 
 -- The id had no set in what the writer had seen, as after its invalidation, and who heard its note finds one: it was
 -- put since.

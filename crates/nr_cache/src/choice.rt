@@ -43,8 +43,6 @@ pub(crate) enum Need {
 pub(crate) struct Choice {
     /// The way that comes next in the turn of the residents.
     turn: u32,
-    /// The way of the last who came. Who loaded its value may have found it since, which tells nothing.
-    newest: Option<u32>,
     /// The last who won, if those who went for it are lighter.
     winner: Option<Winner>,
     standings: Standings,
@@ -74,7 +72,6 @@ impl Choice {
         let most = Mood::Moving.room(shape.capacity).saturating_add(2);
         Ok(Choice {
             turn: 0,
-            newest: None,
             winner: None,
             standings: Standings::open(alloc, shape.groups.saturating_mul(8))?,
             entrants: Entrants::open(alloc, most)?,
@@ -83,43 +80,51 @@ impl Choice {
         })
     }
 
-    /// An id has a way now, which it had not.
-    pub fn enter(&mut self, way: u32, id: u64, weights: &Weights) {
-        if let Some(newest) = self.newest.take() {
-            self.settle(newest, weights);
+    /// An id has a way now, which it had not, and a value of that weight. If none had to go for it, it stays; but
+    /// where values are weighed it waits, and those stay who came before, as long as more waits than may.
+    pub fn enter(&mut self, way: u32, id: u64, weight: u32, had_room: bool) {
+        let count = self.count_of(id);
+        if had_room && !self.doubt.weighs() {
+            return self.standings.set_resident(way, count, Stake::Nothing);
         }
-        let count = match self.leavers.recall(id) {
+        self.standings.set(way, Standing::Entrant { count });
+        self.entrants.push(way, weight);
+        if had_room {
+            self.settle();
+        } else if self.entrants.count() > self.doubt.room.saturating_add(1) {
+            // They are too many, since the mood has changed.
+            self.oldest_stays();
+        }
+    }
+
+    // The count with which an id comes: one more than it went with, if that is known.
+    fn count_of(&mut self, id: u64) -> u8 {
+        match self.leavers.recall(id) {
             Some(leaver) => {
                 self.doubt.misses(leaver.stake);
                 counted(leaver.count)
             }
             None => 1,
-        };
-        self.standings.set(way, Standing::Entrant { count });
-        self.newest = Some(way);
+        }
     }
 
-    // None had to go since the last one came: that stays. Where values are weighed it waits, and those stay who
-    // came before, as long as more waits than may.
-    fn settle(&mut self, newest: u32, weights: &Weights) {
-        self.standings.uncount(newest);
-        if !self.doubt.weighs() {
-            return self.standings.stay(newest);
-        }
-        self.entrants.push(newest, weights.of(newest));
+    fn settle(&mut self) {
         for _ in 0..self.entrants.count() {
             if !self.doubt.is_exceeded(&self.entrants) {
                 return;
             }
-            if let Some(oldest) = self.entrants.pop() {
-                self.standings.stay(oldest);
-            }
+            self.oldest_stays();
         }
     }
 
-    /// The way of one whose value is to go, which isn't the newcomer's unless no other has a value. Takes 1 or 2 steps
-    /// of the directory for the newest's mark, up to 3 for each entrant or resident that it comes to, and none for
-    /// other ways. It comes to one entrant and to nine residents at most, but for those whose values were
+    fn oldest_stays(&mut self) {
+        if let Some(oldest) = self.entrants.pop() {
+            self.standings.stay(oldest);
+        }
+    }
+
+    /// The way of one whose value is to go, which isn't the newcomer's unless no other has a value. Takes up to 3
+    /// steps of the directory for each entrant or resident that it comes to, and none for other ways. It comes to one entrant and to nine residents at most, but for those whose values were
     /// taken since by other calls, to nine more where a winner lacks weight, and to nine times as many where no
     /// entrant is to go.
     pub fn choose(
@@ -134,7 +139,6 @@ impl Choice {
         ensures own { writer.new.table ≡ map.now }
         ensures stays { StaysButClerk writer.old writer.new }
     {
-        self.newest_waits(map, writer, weights);
         if let Some(way) = self.goes_for_winner(map, writer, weights, need, newcomer) {
             return way;
         }
@@ -149,27 +153,6 @@ impl Choice {
         match self.oldest_entrant(map, writer, newcomer) {
             Some(entrant) => self.goes(entrant, Stake::Nothing),
             None => newcomer,
-        }
-    }
-
-    // The last who came waits behind the other entrants from now on. Where they are too many, since the mood has
-    // changed, the oldest stays, so that they become fewer.
-    fn newest_waits(&mut self, map: &IdMap, writer: &mut IdWriter, weights: &Weights)
-        requires own { writer.old.table ≡ map.now }
-        ensures own { writer.new.table ≡ map.now }
-        ensures stays { StaysButClerk writer.old writer.new }
-    {
-        let Some(newest) = self.newest.take() else {
-            return;
-        };
-        self.entrants.push(newest, weights.of(newest));
-        if self.entrants.count() > self.doubt.room.saturating_add(1) {
-            if let Some(oldest) = self.entrants.pop() {
-                self.standings.stay(oldest);
-            }
-        }
-        if newest < map.ways() {
-            map.uses_way(writer, newest);
         }
     }
 

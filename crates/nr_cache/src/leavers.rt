@@ -3,7 +3,7 @@ use crate::standing::Stake;
 use std::alloc::{AllocError, Global};
 
 /// How many ids that went a group tells.
-const PAST: u32 = 4;
+const PAST: usize = 4;
 
 /// An id that went, of which sixteen bits are kept. Its count is 0 where there is none.
 #[derive(Clone, Copy, Debug)]
@@ -19,22 +19,27 @@ const NOBODY: Leaver = Leaver {
     stake: Stake::Nothing,
 };
 
-/// Each group's ids stand side by side, and the next one takes the oldest's place.
+/// The last that went of a group, and the place that the next one takes, which is the oldest's.
+#[derive(Clone, Copy, Debug)]
+struct Past {
+    leavers: [Leaver; PAST],
+    next: u8,
+}
+
+/// Side by side for each group, so that what a miss needs lies in one line of memory.
 #[derive(Drop)]
 pub(crate) struct Leavers {
-    leavers: Vec<Leaver>,
-    nexts: Vec<u32>,
-    groups: u32,
+    groups: Vec<Past>,
 }
 
 impl Leavers {
     pub fn open(alloc: Global, groups: u32) -> Result<Leavers, AllocError> {
-        let nexts = vec![in alloc; 0; groups as usize]?;
-        let leavers = vec![in alloc; NOBODY; groups as usize * PAST as usize]?;
+        let nobody = Past {
+            leavers: [NOBODY; PAST],
+            next: 0,
+        };
         Ok(Leavers {
-            leavers,
-            nexts,
-            groups,
+            groups: vec![in alloc; nobody; groups as usize]?,
         })
     }
 
@@ -42,46 +47,33 @@ impl Leavers {
     pub fn note(&mut self, id: u64, count: u8, stake: Stake) {
         let tag = tag_of(id);
         let group = self.group_of(id);
-        let next = self.takes_next(group);
-        if let Some(place) = self.leavers.get_mut(place_of(group, next)) {
-            *place = Leaver { tag, count, stake };
-        }
+        let Some(past) = self.groups.get_mut(group) else {
+            return;
+        };
+        let next = past.next as usize % PAST;
+        past.leavers[next] = Leaver { tag, count, stake };
+        past.next = ((next + 1) % PAST) as u8;
     }
 
     /// How an id stood when it went, which is told once.
     pub fn recall(&mut self, id: u64) -> Option<Leaver> {
         let tag = tag_of(id);
         let group = self.group_of(id);
-        for at in 0..PAST {
-            if let Some(place) = self.leavers.get_mut(place_of(group, at)) {
-                if place.tag == tag && place.count > 0 {
-                    let leaver = *place;
-                    *place = NOBODY;
-                    return Some(leaver);
-                }
+        let past = self.groups.get_mut(group)?;
+        for place in 0..PAST {
+            let leaver = past.leavers[place];
+            if leaver.tag == tag && leaver.count > 0 {
+                past.leavers[place] = NOBODY;
+                return Some(leaver);
             }
         }
         None
     }
 
-    // The place in a group that the next takes.
-    fn takes_next(&mut self, group: u32) -> u32 {
-        let Some(next) = self.nexts.get_mut(group as usize) else {
-            return 0;
-        };
-        let taken = *next;
-        *next = (taken % PAST + 1) % PAST;
-        taken
-    }
-
-    fn group_of(&self, id: u64) -> u32 {
+    fn group_of(&self, id: u64) -> usize {
         let high = mixed(id) >> 32;
-        (high.wrapping_mul(self.groups as u64) >> 32) as u32
+        (high.wrapping_mul(self.groups.len() as u64) >> 32) as usize
     }
-}
-
-fn place_of(group: u32, at: u32) -> usize {
-    group as usize * PAST as usize + at as usize
 }
 
 fn tag_of(id: u64) -> u16 {

@@ -39,7 +39,7 @@ mod values;
 mod weights;
 
 pub use counts::Counts;
-pub use finds::{FoundValue, find};
+pub use finds::{FoundValue, find, hold};
 pub use flights::{Fate, Flight};
 pub use given::GivenValue;
 pub use shape::{MAX_STORE_GROUPS, MAX_STORE_READERS, StoreShape};

@@ -70,11 +70,17 @@ impl Limit {
         let way = upquery.way();
         let count = count_values(map, writer);
         writer.is_tied();
+        let had_room = self.has_room(count, way, weight);
         if count >= self.capacity {
             self.let_one_go(map, writer, way, Need::Place, bound);
         }
         self.lighten(map, writer, way, weight, bound);
-        self.choice.enter(way, upquery.id(), &self.weights);
+        self.choice.enter(way, upquery.id(), weight, had_room);
+    }
+
+    // Whether none has to go for a value of that weight, in a store of so many.
+    fn has_room(&self, count: u32, way: u32, weight: u32) -> bool {
+        count < self.capacity && self.weights.fits(way, weight)
     }
 
     /// Lets the values of others go until one of that weight fits in the way, in place of what the way has.

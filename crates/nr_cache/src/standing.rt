@@ -59,14 +59,6 @@ impl Standings {
         }
     }
 
-    /// Of an entrant whose loader may have found it, which will count, that is taken off.
-    pub fn uncount(&mut self, way: u32) {
-        if let Standing::Entrant { count } = self.of(way) {
-            let count = count.saturating_sub(1);
-            self.set(way, Standing::Entrant { count });
-        }
-    }
-
     pub fn set_resident(&mut self, way: u32, count: u8, stake: Stake) {
         self.set(way, Standing::Resident { count, stake });
     }

@@ -7,7 +7,7 @@ mod weights;
 use crate::ids::view::{is_same, is_set, row};
 use nr_cache::{
     Begun, Counts, Flight, FoundValue, GivenValue, Landed, MAX_STORE_GROUPS, Store, StoreShape,
-    Swapped, find,
+    Swapped, find, hold,
 };
 use nr_idmap::{IdHand, IdMap, OpenFault, Reaped, Reclaimed};
 use nr_model::{Row, RowSet};
@@ -255,6 +255,14 @@ impl Shelf {
         let found = self.find(id);
         let wanted = value.map(|value| FoundValue { stamp: 1, value });
         is_same(rt, &found, &wanted);
+    }
+
+    /// Who has put the value holds it.
+    fn holds<R: Abort>(&mut self, rt: &R, id: u64, value: u64)
+        requires { 0 < id }
+    {
+        let found = hold(&self.map, &mut self.hand, id);
+        is_same(rt, &found, &Some(FoundValue { stamp: 1, value }));
     }
 
     /// Each of the ids is wanted, and put where it isn't found.

@@ -48,6 +48,28 @@ fn what_is_found_stays(rt: HostRuntime) {
     shelf.closes(&rt, &[]);
 }
 
+// Who puts a value may hold it, and still goes as one that nobody asked for.
+#[test]
+fn what_is_only_held_goes(rt: HostRuntime) {
+    let mut shelf = Shelf::of_few(&rt, 4);
+    shelf.puts_each(&rt, 1, 6);
+    shelf.holds(&rt, 5, 50);
+    shelf.puts_each(&rt, 6, 8);
+    shelf.looks(&rt, 5, None);
+    shelf.closes(&rt, &[]);
+}
+
+#[test]
+fn what_is_found_as_well_stays(rt: HostRuntime) {
+    let mut shelf = Shelf::of_few(&rt, 4);
+    shelf.puts_each(&rt, 1, 6);
+    shelf.holds(&rt, 5, 50);
+    shelf.finds(&rt, 5, Some(50));
+    shelf.puts_each(&rt, 6, 8);
+    shelf.looks(&rt, 5, Some(50));
+    shelf.closes(&rt, &[]);
+}
+
 /// A store of sixteen values, in four groups.
 fn roomy<R: AllocGlobal + Abort>(rt: &R) -> Shelf {
     Shelf::of(rt, &StoreShape { groups: 4, ..SMALL })

@@ -1,6 +1,6 @@
-use Rattle.std.proofs.Common.{ℕ, zero, suc, ◌≡◌, ◌≢◌, List, [], ◌∷◌, Some, take, slice_get, ap, arith, refl, sym, ◌∙◌}
+use Rattle.std.proofs.Common.{ℕ, zero, suc, ◌≡◌, ◌≢◌, List, ◌∷◌, Some, take, slice_get, ap, arith, refl, sym, ◌∙◌}
 use Rattle.std.proofs.Common.{◌+◌, subst}
-use Rattle.std.proofs.lemmas.Option.{none-some, same_Some}
+use Rattle.std.proofs.lemmas.Option.{same_Some}
 use Rattle.nr_model.specs.declared.rows.Row.{Row}
 use Rattle.nr_cache.specs.declared.given.GivenValue.{GivenValue}
 use Rattle.nr_cache.specs.GivenValues.{ShowsValue}
