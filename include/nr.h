@@ -804,10 +804,10 @@ uint32_t nr_choose_id(nr_id_writer *writer, uint64_t id, uint64_t *chosen);
    0, which comes back with it. The cache decides which loads are under way, whether a loaded value is held, and whose
    value goes to make room.
 
-   Threads. nr_cache_find, nr_cache_release and nr_close_cache_reader take a reader alone, which is one thread's, and need
-   no lock. Each call that takes a cache, nr_open_cache_reader among them, is for one thread at a time, as under a mutex
-   of the caller's. No call blocks, and only those that open take memory. A call with the id 0 answers NR_NO_KEY, and one
-   with the stamp 0 NR_BAD_ROW, both without a step.
+   Threads. nr_cache_find, nr_cache_hold, nr_cache_release and nr_close_cache_reader take a reader alone, which is one
+   thread's, and need no lock. Each call that takes a cache, nr_open_cache_reader among them, is for one thread at a time,
+   as under a mutex of the caller's. No call blocks, and only those that open take memory. A call with the id 0 answers
+   NR_NO_KEY, and one with the stamp 0 NR_BAD_ROW, both without a step.
 
    A miss. Begin a load. The caller that gets NR_SEND queries the base and lands the value, or ends the load without one.
    Then it wakes those that wait, by the mark. A caller that gets NR_WAITING waits for that load, and finds again. At
@@ -858,6 +858,10 @@ void nr_close_cache(nr_cache *cache);
      NR_HOLE if the id has none. Nothing is held, and `found` stays as it was.
      NR_CLOSED instead of NR_HOLE once the cache was closed. */
 uint32_t nr_cache_find(nr_cache_reader *reader, uint64_t id, nr_cache_value *found);
+
+/* Finds and holds the value of an id as nr_cache_find does, with the same answers, for the thread that has just landed or
+   put it. When a value has to go, this doesn't count as a find. */
+uint32_t nr_cache_hold(nr_cache_reader *reader, uint64_t id, nr_cache_value *found);
 
 /* Ends the hold.
      NR_DONE after 1 step.

@@ -132,7 +132,7 @@ static void test_change(void) {
 /* A value that a reader holds doesn't come out until it lets go, whatever happens to the id. */
 static void test_hold(void) {
   WANTS(NR_NOT_HOLDING, nr_cache_release(&reader));
-  WANTS(NR_ROWS, nr_cache_find(&reader, USER, &found));
+  WANTS(NR_ROWS, nr_cache_hold(&reader, USER, &found));
   WANTS(NR_DONE, nr_cache_put(&cache, USER, 10, 107, 1, 0, &given));
   WANTS(NR_HELD, nr_cache_reap(&cache, &given));
   WANTS(NR_ROWS, nr_cache_find(&second, USER, &found));
@@ -140,8 +140,13 @@ static void test_hold(void) {
   WANTS(NR_DONE, nr_cache_release(&reader));
   WANTS(NR_GIVEN, nr_cache_reap(&cache, &given));
   IS(came_out(USER, 9, 106));
-  /* A find lets go what the reader held before. */
+  /* A find, and a hold, let go what the reader held before. */
   WANTS(NR_HOLE, nr_cache_find(&second, OTHER, &found));
+  WANTS(NR_NOT_HOLDING, nr_cache_release(&second));
+  WANTS(NR_ROWS, nr_cache_hold(&second, USER, &found));
+  found = (nr_cache_value){1, 2};
+  WANTS(NR_HOLE, nr_cache_hold(&second, OTHER, &found));
+  IS(found.stamp == 1 && found.value == 2);
   WANTS(NR_NOT_HOLDING, nr_cache_release(&second));
 }
 
@@ -315,6 +320,7 @@ static void test_weights(void) {
 
 static void test_refusals(void) {
   WANTS(NR_NO_KEY, nr_cache_find(&reader, 0, &found));
+  WANTS(NR_NO_KEY, nr_cache_hold(&reader, 0, &found));
   WANTS(NR_NO_KEY, nr_cache_begin(&cache, 0, 1, &flight));
   WANTS(NR_NO_KEY, nr_cache_put(&cache, 0, 0, 1, 1, 0, &given));
   WANTS(NR_NO_KEY, nr_cache_swap(&cache, 0, 1, 0, 1, 1, 0, &given));
@@ -342,6 +348,8 @@ static void test_openings(const nr_cache_shape *shape) {
   for (size_t at = 0; at < sizeof bad / sizeof *bad; at++) WANTS(NR_BAD_SIZE, nr_open_cache(&bad[at], &none));
   WANTS(NR_CLOSED, nr_cache_begin(&none, 1, 1, &flight));
   WANTS(NR_CLOSED, nr_cache_find(&third, 1, &found));
+  WANTS(NR_CLOSED, nr_cache_hold(&third, 1, &found));
+  WANTS(NR_CLOSED, nr_cache_hold(NULL, 1, &found));
   WANTS(NR_CLOSED, nr_cache_release(&third));
   WANTS(NR_CLOSED, nr_cache_release(NULL));
   WANTS(NR_CLOSED, nr_cache_invalidate(NULL, 1));
@@ -359,6 +367,7 @@ static void test_closed(void) {
   nr_close_cache(&cache);
   IS(has(USER, 1, 5));
   WANTS(NR_CLOSED, nr_cache_find(&reader, OTHER, &found));
+  WANTS(NR_CLOSED, nr_cache_hold(&reader, OTHER, &found));
   WANTS(NR_CLOSED, nr_cache_land(&cache, 1, 1, 1, 1, 0, &given));
   WANTS(NR_CLOSED, nr_cache_fail(&cache, 1, &flight));
   WANTS(NR_CLOSED, nr_cache_fail_oldest(&cache, &flight));

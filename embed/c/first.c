@@ -18,7 +18,7 @@ int main(void) {
   if (nr_cache_find(&reader, alice, &found) == NR_HOLE && nr_cache_begin(&cache, alice, 0, &flight) == NR_SEND)
     /* Who misses her meanwhile is told NR_WAITING. The value is an address; nothing expires here. */
     if (nr_cache_land(&cache, flight.number, 1, (uintptr_t)query(), 1, 0, &given) != NR_DONE) return 1;
-  if (nr_cache_find(&reader, alice, &found) != NR_ROWS) return 1;
+  if (nr_cache_hold(&reader, alice, &found) != NR_ROWS) return 1; /* a find by who has just landed it */
   puts((const char *)(uintptr_t)found.value); /* it stays until this reader's next find or release */
   nr_cache_release(&reader);
   if (nr_cache_invalidate(&cache, alice) != NR_EVICTED) return 1; /* the base changed */

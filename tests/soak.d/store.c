@@ -107,7 +107,9 @@ static void fail(uint32_t key, uint64_t number) {
   model_counts("load failed", 1);
 }
 
-static void land(uint32_t key, uint64_t number, uint64_t version, uint64_t bound) {
+/* Half of those whose value is held hold it themselves before another may take it. */
+static void land(client *client, uint32_t key, uint64_t number, uint64_t version, uint64_t bound) {
+  nr_cache_value found;
   nr_given given;
   pthread_mutex_lock(&lock);
   uint64_t value = value_of(key), before = held();
@@ -117,6 +119,8 @@ static void land(uint32_t key, uint64_t number, uint64_t version, uint64_t bound
   if (is_held && !may_stay) model_fails("stale fill", "of key %u by load %lu", key, number);
   if (!is_held && may_stay) model_fails("answer", "a load of key %u that nothing outdated isn't held", key);
   if (is_first) ends(key);
+  if (is_held && model_rolls(&client->dice) % 2)
+    model_wants(nr_cache_hold(&client->reader, id_of(key), &found) == NR_ROWS && found.value == value, "answer", "of nr_cache_hold");
   pthread_mutex_unlock(&lock);
   if (!is_held) model_counts("late load refused", 1);
   if (is_held && before == shape.capacity) model_counts("room made for a value", 1);
@@ -128,7 +132,7 @@ static void load_key(client *client, uint32_t key, uint64_t number, uint64_t flo
   model_wants(version >= floor, "older value", "what is loaded");
   if (model_rolls(&client->dice) % 2) model_sleeps(client->place, (unsigned)(model_rolls(&client->dice) % 3));
   if (model_rolls(&client->dice) % 16 == 0) fail(key, number);
-  else land(key, number, version, model_rolls(&client->dice) % 4 ? 0 : version / 2);
+  else land(client, key, number, version, model_rolls(&client->dice) % 4 ? 0 : version / 2);
 }
 
 /* What a miss comes to: the number of the load that this reader is to do; or 0 once it is to find again, or may load by

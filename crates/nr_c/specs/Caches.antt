@@ -11,7 +11,7 @@ use Rattle.nr_cache.specs.declared.store.Landed.TheVariants as landed
 use Rattle.nr_cache.specs.declared.swaps.Swapped.{Swapped}
 use Rattle.nr_cache.specs.declared.swaps.Swapped.TheVariants as swapped
 use Rattle.nr_cache.specs.Counts.{CountsStore}
-use Rattle.nr_cache.specs.Finds.{FindsValue}
+use Rattle.nr_cache.specs.Finds.{FindsValue, HoldsValue}
 use Rattle.nr_cache.specs.Firsts.{EvictsOne}
 use Rattle.nr_cache.specs.Flights.{EndsChange}
 use Rattle.nr_cache.specs.GivenValues.{ShowsValue}
@@ -54,6 +54,10 @@ value_told stood None = stood
 abbrev pub FindsValueByCode : ℕ → FoundValue → FoundValue → IdHanded → IdHanded → ℕ → Type 0
 FindsValueByCode id stood stands old new =
     ByCode found_value_code (λ value. FindsValue id old new value × (stands ≡ value_told stood value))
+
+abbrev pub HoldsValueByCode : ℕ → FoundValue → FoundValue → IdHanded → IdHanded → ℕ → Type 0
+HoldsValueByCode id stood stands old new =
+    ByCode found_value_code (λ value. HoldsValue id old new value × (stands ≡ value_told stood value))
 
 abbrev pub LooksByValueCode : ℕ → FoundValue → FoundValue → StoreSeen → StoreSeen → ℕ → Type 0
 LooksByValueCode id stood stands old new =

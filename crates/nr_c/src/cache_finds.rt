@@ -1,6 +1,6 @@
 //! A cache's reader, which takes no lock.
 ghost use Rattle.std.specs.Prelude.{◌≡◌, ⊤};
-ghost use Rattle.nr_c.specs.Caches.{FindsValueByCode};
+ghost use Rattle.nr_c.specs.Caches.{FindsValueByCode, HoldsValueByCode};
 ghost use Rattle.nr_c.specs.IdLive.{IdHandHears, IdHandTurns, WhenHoldingById, WithId};
 ghost use Rattle.nr_c.specs.IdPins.{ReleasesId};
 ghost use Rattle.nr_c.specs.Live.{WhenLive};
@@ -26,6 +26,24 @@ pub extern "C" fn nr_cache_find(reader: &mut NrCacheReader, id: u64, found: &mut
     }
     let side = reader.side();
     let value = nr_cache::find(&side.map, &mut side.hand, id);
+    let answer = of_value(value, found);
+    side.watch.heard(answer)
+}
+
+/// Finds and holds the value of an id as `nr_cache_find` does, for who has just landed or put it: the choice of whose
+/// value goes doesn't count it. The same answers. Takes the steps of a hand's `hold`.
+#[unsafe(no_mangle)]
+pub extern "C" fn nr_cache_hold(reader: &mut NrCacheReader, id: u64, found: &mut FoundValue) -> u32
+    ensures { WhenLive (found.new ≡ found.old) (WithId id (found.new ≡ found.old) (IdHandHears (HoldsValueByCode id found.old found.new))) reader.old.live reader.new.live result }
+{
+    if !reader.is_live() {
+        return NR_CLOSED;
+    }
+    if id == 0 {
+        return NR_NO_KEY;
+    }
+    let side = reader.side();
+    let value = nr_cache::hold(&side.map, &mut side.hand, id);
     let answer = of_value(value, found);
     side.watch.heard(answer)
 }
