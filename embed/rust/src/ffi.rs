@@ -98,6 +98,7 @@ extern "C" {
     pub fn nr_close_cache_reader(reader: *mut Handle);
     pub fn nr_close_cache(ids: *mut Handle);
     pub fn nr_cache_find(reader: *mut Handle, id: u64, found: *mut Stamped) -> u32;
+    pub fn nr_cache_hold(reader: *mut Handle, id: u64, found: *mut Stamped) -> u32;
     pub fn nr_cache_release(reader: *mut Handle) -> u32;
     pub fn nr_cache_begin(ids: *mut Handle, id: u64, mark: u64, flight: *mut Loading) -> u32;
     pub fn nr_cache_land(

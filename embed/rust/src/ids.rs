@@ -132,6 +132,16 @@ impl IdReader {
         self.holds
     }
 
+    /// The same for who has put the number a moment ago: which number makes room for another doesn't count this as a find.
+    pub fn hold(&mut self, id: u64) -> Option<u64> {
+        let mut found = Stamped::default();
+        reads_store(self.holds);
+        // SAFETY: the handle is live, and what is found is laid out as the header's.
+        let code = unsafe { ffi::nr_cache_hold(&mut self.handle, id, &mut found) };
+        self.holds = (code == ffi::NR_ROWS).then(|| sees(found.number));
+        self.holds
+    }
+
     /// Ends its hold, where it has one.
     #[inline]
     pub fn let_go(&mut self) {

@@ -11,9 +11,9 @@ impl<'a> Hold<'a> {
         Hold(reader)
     }
 
-    /// A hold of the entry of an id, which nobody can take meanwhile.
+    /// A hold of the entry of an id, which was put there a moment ago and which nobody can take meanwhile.
     pub fn of(reader: &'a mut IdReader, id: u64) -> Hold<'a> {
-        assert!(reader.find(id).is_some(), "the id has an entry");
+        assert!(reader.hold(id).is_some(), "the id has an entry");
         Hold(reader)
     }
 
