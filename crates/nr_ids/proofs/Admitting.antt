@@ -3,21 +3,22 @@ use Rattle.std.proofs.Common.{◌≡◌, ◌≢◌, ℕ, zero, suc, ◌+◌, ◌
 use Rattle.std.proofs.Common.{refl, sym, ap, ◌∙◌, subst, arith, Option, Some, None, Ok, Err, get_or, set}
 use Rattle.std.proofs.Common.{get_or-set_other, get_or-set_same, inl, inr, eq-eqb, ne_eqb}
 use Rattle.std.proofs.lemmas.Bool.Decides.{nat_tests}
-use Rattle.std.specs.Prelude.{IfSome}
+use Rattle.std.specs.Prelude.{IfSome, Result}
 use Rattle.std.specs.Int.{to_le_bytes, w64}
 use mathlib.Core.Logic.{dite}
 use native.Mathlib.Decide.{ℕ_discrete}
 use Rattle.nr_ids.specs.declared.admissions.Refused.{Refused}
 use Rattle.nr_ids.specs.declared.admissions.Refused.TheVariants as refused
 use Rattle.nr_ids.specs.declared.admissions.Room.{Room}
-use Rattle.nr_ids.specs.Groups.{IsWayOf, group_of_way, hint_of, way_at, way_in, ways}
+use Rattle.nr_ids.specs.declared.plan.Plan.{Plan}
+use Rattle.nr_ids.specs.Groups.{IsWayOf, group_of, group_of_way, hint_of, way_at, way_in, ways}
 use Rattle.nr_ids.specs.Events.{Event, cleared, hinted, looked, named, touched, unnamed, hint_at, hint_in, hints_of}
-use Rattle.nr_ids.specs.Events.{looks, name_of, turn_of, IsOpen, KeepsHints, MayName}
-use Rattle.nr_ids.specs.Looking.{HasRoom, HintsNames, Missed, PassedByClerk, Rooms, Scans, SeesRoom, SetsHint}
+use Rattle.nr_ids.specs.Events.{looks, name_of, turn_of, last_turn, IsOpen, KeepsHints, MayName}
+use Rattle.nr_ids.specs.Looking.{FindsAt, HasRoom, HintsNames, Missed, PassedByClerk, Rooms, Scans, SeesRoom, SetsHint}
 use Rattle.nr_ids.specs.Looking.{group_for, second_for, way_for}
-use Rattle.nr_ids.specs.Answers.{Admits}
+use Rattle.nr_ids.specs.Answers.{Admits, AnswersClaim, Gives, GivesWay, HasClaim, LooksForClaim}
 use Rattle.nr_ids.specs.Tokens.{Opened, Token, Grows, Sits, token}
-use Rattle.nr_ids.proofs.Logs.{cond_same, cond_else, looks_clear_nothing, looks_names, named_inside}
+use Rattle.nr_ids.proofs.Logs.{cond_same, cond_else, looks_clear_nothing, looks_names}
 use Rattle.nr_ids.proofs.Hinted.{exact_hints, hint_there}
 use Rattle.nr_ids.proofs.Calls.{at_first, at_second, clerk_looks, clerk_names, clerk_turn, each_place, grows_next}
 use Rattle.nr_ids.proofs.Calls.{grows_on, looks_after, looks_both, still_passed}
@@ -178,128 +179,159 @@ module _ (way hint word : ℕ) (old mid : Token) (clerk : old.number ≡ 0) (loo
     }
 
 -- AN ADMISSION
--- a look at the turn, looks for the name and for room, and a hint
-pub record Hinting (id way : ℕ) (old first second third fourth : Token) : Type 0 where
-  pub real : 0 < id
-  pub clerk : old.number ≡ 0
-  pub turn : Grows (looks 1 old.number) old first
-  pub missed : Missed id first second
-  pub room : HasRoom id way second third
-  pub hint : SetsHint way (hint_of first.directory.plan id) third fourth
-
-pub hints_way : {id way hint : ℕ} {old first second third fourth : Token} → 0 < id → old.number ≡ 0
-    → Grows (looks 1 old.number) old first → Missed id first second → HasRoom id way second third
-    → hint ≡ hint_of first.directory.plan id → SetsHint way hint third fourth
-    → Hinting id way old first second third fourth
-hints_way real clerk turn missed room is sets = let hint = rw is at sets in search
-
--- and then a name and a clearing
-module _ {id way : ℕ} {old first second third fourth : Token} (it : Hinting id way old first second third fourth) where
-  pub scan : SomeLooks first second
-  scan = looks_in_both id first second it.missed.looks
-
-  searched : Grows (looks (scan.0 + 2) first.number) first third
-  searched = looks_after scan.0 2 scan.1 it.room.grows
-
-  abbrev pub hinting : List Event
-  hinting = touched third.number (hinted (group_of_way way) it.hint.hints) ∷ looked third.number ∷ []
-
-  all : Grows (hinting ++ looks (scan.0 + 2) first.number) first fourth
-  all = grows_on first third fourth _ hinting searched it.hint.grows
-
-  first_clerk : first.number ≡ 0
-  first_clerk = it.turn.number ∙ it.clerk
-
-  same_names : (other : ℕ) → name_of fourth.seen other ≡ name_of first.seen other
-  same_names other =
-      clerk_names _ _ _ other first_clerk all ∙ looks_names (scan.0 + 2) first.number first.seen other
-
-  same_from_third : (other : ℕ) → name_of fourth.seen other ≡ name_of third.seen other
-  same_from_third other =
-      same_names other ∙ sym (clerk_looks first (scan.0 + 2) first.number third other first_clerk searched)
-
-  -- while the turn that was found is odd
-  module _ {found : ℕ} (is : turn_of first.directory.plan first.seen (group_for first id) ≡ found)
-      (odd : found % 2 ≢ 0) where
-    open_claim : IsOpen first.directory.plan first.seen (group_for first id)
-    open_claim = ap (λ (k : ℕ). k % 2) is ∙ omega (arith, odd)
-
-    pub may_admit : MayName first.directory.plan fourth.seen way id
-    may_admit = record {
-      inside = rw scan.1.directory at it.room.inside;
-      real = it.real;
-      place = rw scan.1.directory at it.room.place;
-      hint = it.hint.set;
-      free = same_from_third way ∙ it.room.free;
-      open_claim = rw (clerk_turn first _ fourth (group_for first id) first_clerk all
-          (tt, (tt, looks_clear_nothing (scan.0 + 2) first.number)) open_claim) open_claim;
-      absent = λ other has. it.missed.exact first_clerk other
-          (clerk_looks first scan.0 first.number second other first_clerk scan.1 ∙ sym (same_names other) ∙ has);
-    }
-
-    pub still_open : {fifth : Token} → Grows (named way id ∷ []) fourth fifth
-        → turn_of first.directory.plan fifth.seen (group_for first id) ≡ found
-    still_open {fifth = fifth} names =
-        clerk_turn first _ fifth (group_for first id) first_clerk (grows_on first fourth fifth _ _ all names)
-        (tt, (tt, (tt, looks_clear_nothing (scan.0 + 2) first.number))) open_claim
-        ∙ is
-
-  module _ {fifth last : Token} {group : ℕ} (names : Grows (named way id ∷ []) fourth fifth)
-      (group_is : group ≡ group_for old id) (clears : Grows (cleared group ∷ []) fifth last) where
-    ends : Grows (cleared (group_for old id) ∷ named way id ∷ []) fourth last
-    ends = grows_on fourth fifth last _ _ names (rw group_is at clears)
-
-    pub whole : Grows
-        ((cleared (group_for old id) ∷ named way id ∷ []) ++ hinting ++ looks (scan.0 + 2) first.number) first last
-    whole = grows_on first fourth last _ _ all ends
-
-    name_after : (other : ℕ) → name_of last.seen other ≡ cond (way == other) id (name_of fourth.seen other)
-    name_after other = clerk_names _ _ _ other (all.number ∙ first_clerk) ends
-
-    has : name_of last.seen way ≡ id
-    has = name_after way ∙ cond_same id (name_of fourth.seen way) way way refl
-
-    -- in all, as the clerk counts them
-    abbrev closing : ℕ → ℕ → List Event
-    closing of by = cleared of ∷ named way id ∷ touched by (hinted (group_of_way way) it.hint.hints) ∷ looks 3 by
-
-    names_way : Grows (closing (group_for old id) old.number) second last
-    names_way =
-        subst (λ (by : ℕ). Grows (closing (group_for old id) by) second last) (scan.1.number ∙ it.turn.number)
-        (grows_on second fourth last _ _
-        (grows_next (λ by. touched by (hinted (group_of_way way) it.hint.hints) ∷ looked by ∷ []) second third fourth
-        _ it.room.grows it.hint.grows) ends)
-
-    pub admission : Admits id old last (Ok way)
-    admission = (
-      record {
-        scanned = second;
-        looks_for = record { turned = first; turn = it.turn; both = it.missed.looks };
-        hints = it.hint.hints;
-        grows = names_way;
-      },
-      sym (clerk_looks old 1 old.number first way it.clerk it.turn) ∙ sym (same_names way) ∙ same_from_third way
-          ∙ it.room.free,
-      record {
-        inside = subst (λ (d : Opened). way < ways d.plan) (sym whole.directory)
-            (named_inside first.directory.plan last.seen way id whole.legal it.real has).0;
-        has = has;
-      },
+-- a way of the id's has its name
+pub named_for_claim : {id way : ℕ} {old first : Token} (new : Token) → old.number ≡ 0
+    → Grows (looks 1 old.number) old first → FindsAt id first new way
+    → AnswersClaim id old new (Err (refused.Named way))
+named_for_claim {id = id} {way = way} {first = first} new clerk look found =
+    let looked = looks_up_to way id first new found.looks in (
+      (
+        record { turned = first; turn = look; finds = found },
+        record {
+          inside = subst (λ (d : Opened). way < ways d.plan) (sym looked.1.directory) found.named.inside;
+          has = found.named.exact (look.number ∙ clerk);
+        },
+      ),
+      λ same. absurd (cc (same)),
     )
 
+-- a claim that was found open still is after looks for the name
+pub claim_stays : (id turn : ℕ) {old first new : Token} → old.number ≡ 0 → Grows (looks 1 old.number) old first
+    → Missed id first new → turn_of first.directory.plan first.seen (group_for first id) ≡ turn → turn % 2 ≢ 0
+    → (turn % 2 ≡ 1 → turn < last_turn) → HasClaim id turn new
+claim_stays id turn {first = first} {new = new} clerk look missed is odd early =
+    let scan = looks_in_both id first new missed.looks in
+    let by : first.number ≡ 0 = look.number ∙ clerk in
+    let is_open : turn % 2 ≡ 1 = omega (arith, odd) in
+    let same : turn_of first.directory.plan new.seen (group_for first id) ≡ turn
+    = clerk_turn first _ new (group_for first id) by scan.1 (looks_clear_nothing scan.0 first.number)
+    (ap (λ (k : ℕ). k % 2) is ∙ is_open)
+    ∙ is in record {
+      turn_is = subst (λ (d : Opened). turn_of d.plan new.seen (group_of d.plan id) ≡ turn) (sym scan.1.directory) same;
+      is_open = is_open;
+      early = early is_open;
+      absent = missed.exact by;
+    }
+
+-- a look for room, and a hint
+pub record Hinting (id way : ℕ) (old mid new : Token) : Type 0 where
+  pub real : 0 < id
+  pub clerk : old.number ≡ 0
+  pub room : HasRoom id way old mid
+  pub hint : SetsHint way (hint_of old.directory.plan id) mid new
+
+pub hints_way : {id way hint : ℕ} {plan : Plan} {now : Opened} {old mid new : Token} → 0 < id → old.number ≡ 0
+    → old.directory ≡ now → plan ≡ now.plan → HasRoom id way old mid → hint ≡ hint_of plan id
+    → SetsHint way hint mid new → Hinting id way old mid new
+hints_way {id = id} {way = way} {mid = mid} {new = new} real clerk own of room is sets = record {
+  real = real;
+  clerk = clerk;
+  room = room;
+  hint = subst (λ (hint : ℕ). SetsHint way hint mid new)
+      (is ∙ ap (λ (p : Plan). hint_of p id) (of ∙ ap (λ (d : Opened). d.plan) (sym own))) sets;
+}
+
+-- and then a name and a clearing
+module _ {id way : ℕ} {old mid new : Token} (it : Hinting id way old mid new) where
+  abbrev pub hinting : List Event
+  hinting = touched mid.number (hinted (group_of_way way) it.hint.hints) ∷ looked mid.number ∷ []
+
+  all : Grows (hinting ++ looks 2 old.number) old new
+  all = grows_on old mid new _ hinting it.room.grows it.hint.grows
+
+  same_names : (other : ℕ) → name_of new.seen other ≡ name_of old.seen other
+  same_names other = clerk_names _ _ _ other it.clerk all
+
+  same_from_room : (other : ℕ) → name_of new.seen other ≡ name_of mid.seen other
+  same_from_room other = same_names other ∙ sym (clerk_looks old 2 old.number mid other it.clerk it.room.grows)
+
+  -- while a claim of the id's group is open, and no way has the id
+  module _ {turn : ℕ} (claim : HasClaim id turn old) where
+    open_claim : IsOpen old.directory.plan old.seen (group_for old id)
+    open_claim = ap (λ (k : ℕ). k % 2) claim.turn_is ∙ claim.is_open
+
+    pub may_admit : MayName old.directory.plan new.seen way id
+    may_admit = record {
+      inside = it.room.inside;
+      real = it.real;
+      place = it.room.place;
+      hint = it.hint.set;
+      free = same_from_room way ∙ it.room.free;
+      open_claim =
+          rw (clerk_turn old _ new (group_for old id) it.clerk all (tt, (tt, (tt, (tt, tt)))) open_claim) open_claim;
+      absent = λ other has. claim.absent other (sym (same_names other) ∙ has);
+    }
+
+    pub still_open : {named_at : Token} → Grows (named way id ∷ []) new named_at
+        → turn_of old.directory.plan named_at.seen (group_for old id) ≡ turn
+    still_open {named_at = named_at} names =
+        clerk_turn old _ named_at (group_for old id) it.clerk (grows_on old new named_at _ _ all names)
+        (tt, (tt, (tt, (tt, (tt, tt))))) open_claim
+        ∙ claim.turn_is
+
+  module _ {named_at last : Token} {group : ℕ} (names : Grows (named way id ∷ []) new named_at)
+      (group_is : group ≡ group_for old id) (clears : Grows (cleared group ∷ []) named_at last) where
+    ends : Grows (cleared (group_for old id) ∷ named way id ∷ []) new last
+    ends = grows_on new named_at last _ _ names (rw group_is at clears)
+
+    name_after : (other : ℕ) → name_of last.seen other ≡ cond (way == other) id (name_of new.seen other)
+    name_after other = clerk_names _ _ _ other (all.number ∙ it.clerk) ends
+
+    has : name_of last.seen way ≡ id
+    has = name_after way ∙ cond_same id (name_of new.seen way) way way refl
+
+    whole : Grows
+        (cleared (group_for old id) ∷ named way id ∷ touched old.number (hinted (group_of_way way) it.hint.hints)
+        ∷ looks 3 old.number) old last
+    whole = grows_on old new last _ _
+        (grows_next (λ by. touched by (hinted (group_of_way way) it.hint.hints) ∷ looked by ∷ []) old mid new
+        _ it.room.grows it.hint.grows) ends
+
+    pub gives_way : GivesWay id way old last
+    gives_way = record {
+      hints = it.hint.hints;
+      grows = whole;
+      free = sym (same_names way) ∙ same_from_room way ∙ it.room.free;
+      has = record {
+        inside = subst (λ (d : Opened). way < ways d.plan) (sym whole.directory) it.room.inside;
+        has = has;
+      };
+    }
+
     -- the way has a name now, and no other way another hint
-    pub admitted_of_names : HintsNames old → HintsNames last
-    admitted_of_names were = of_names third last (ends.directory ∙ it.hint.grows.directory)
-        (looks_of_names (scan.0 + 2) first_clerk searched (looks_of_names 1 it.clerk it.turn were))
+    pub given_of_names : HintsNames old → HintsNames last
+    given_of_names were = of_names mid last (ends.directory ∙ it.hint.grows.directory)
+        (looks_of_names 2 it.clerk it.room.grows were)
         (λ other. dite (ℕ_discrete way other)
         (λ (e : way ≡ other). inr (λ _ none. let zero_id : id ≡ 0 = sym has ∙ ap (name_of last.seen) e ∙ none in
         absurd (omega (arith, zero_id, it.real))))
         (λ ne. inl (
-          ap (λ (n : ℕ). hint_at n (other % 8))
-              (clerk_hints (group_of_way other) (all.number ∙ first_clerk) ends)
+          ap (λ (n : ℕ). hint_at n (other % 8)) (clerk_hints (group_of_way other) (all.number ∙ it.clerk) ends)
               ∙ it.hint.others other (λ e. ne (sym e)),
-          name_after other ∙ cond_else id (name_of fourth.seen other) way other ne ∙ same_from_third other,
+          name_after other ∙ cond_else id (name_of new.seen other) way other ne ∙ same_from_room other,
         )))
+
+-- in all, where the claim is open
+pub admission : {id turn : ℕ} {old mid : Token} (new : Token) (answer : Result ℕ Refused) → old.number ≡ 0
+    → LooksForClaim id old mid × HasClaim id turn mid → Gives id mid new answer → Admits id old new answer
+admission {id = id} {old = old} {mid = mid} new (Ok way) clerk claim gives =
+    let looked = looks_for_claim claim.0 in
+    let closing : ℕ → ℕ → ℕ → List Event
+    = λ of by hints. cleared of ∷ named way id ∷ touched by (hinted (group_of_way way) hints) ∷ looks 3 by in (
+      record {
+        scanned = mid;
+        looks_for = claim.0;
+        hints = gives.hints;
+        grows = subst (λ (by : ℕ). Grows (closing (group_for old id) by gives.hints) mid new) looked.1.number
+            (subst (λ (d : Opened). Grows (closing (group_of d.plan id) mid.number gives.hints) mid new)
+            looked.1.directory gives.grows);
+      },
+      sym (clerk_looks old looked.0 old.number mid way clerk looked.1) ∙ gives.free,
+      gives.has,
+    )
+admission {id = id} {old = old} {mid = mid} new (Err why) clerk claim gives =
+    subst (λ (w : Refused). Admits id old new (Err w)) (sym gives.2)
+    (record { scanned = mid; looks_for = claim.0; others = gives.0 }, gives.1)
 
 -- a way's name is taken, and then its hint
 module _ {way : ℕ} {old mid new : Token} (clerk : old.number ≡ 0) (takes : Grows (unnamed way ∷ []) old mid)

@@ -1,5 +1,6 @@
 -- What each call says of its token, by its answer.
-use Rattle.std.specs.Prelude.{◌≡◌, ℕ, ◌<◌, ◌≤◌, Bool, true, false, List, [], ◌∷◌, Option, Some, None, Result, Ok, Err}
+use Rattle.std.specs.Prelude.{◌≡◌, ◌≢◌, ℕ, ◌%◌, ◌<◌, ◌≤◌, Bool, true, false, List, [], ◌∷◌, Option, Some, None, Result}
+use Rattle.std.specs.Prelude.{Ok, Err}
 use Rattle.nr_ids.specs.declared.admissions.Refused.{Refused}
 use Rattle.nr_ids.specs.declared.admissions.Refused.TheVariants as refused
 use Rattle.nr_ids.specs.declared.requests.Requested.{Requested}
@@ -73,6 +74,33 @@ Admits id old new (Err refused.NoClaim) =
     Grows (looks 1 old.number) old new × IsClosed old.directory.plan new.seen (group_for old id)
 Admits id old new (Err (refused.Named way)) = FindsForClaim id old new way × HasName new way id
 Admits id old new (Err refused.Full) = LooksOn id 2 old new × IsFull id new
+
+-- a claim of the id's group is open, at that turn, and no way has the id
+pub record HasClaim (id turn : ℕ) (token : Token) : Type 0 where
+  pub turn_is : turn_of token.directory.plan token.seen (group_for token id) ≡ turn
+  pub is_open : turn % 2 ≡ 1
+  pub early : turn < last_turn
+  pub absent : IsAbsent token.seen id
+
+-- an admission's first part: looks for a claim found it open, and no way of the id's; or they refuse the admission
+abbrev pub AnswersClaim : ℕ → Token → Token → Result ℕ Refused → Type 0
+AnswersClaim id old new (Ok turn) = LooksForClaim id old new × HasClaim id turn new
+AnswersClaim id old new (Err why) = Admits id old new (Err why) × (why ≢ refused.Full)
+
+-- its second part: looks for room found a way, which had no name; then its hint is set, its name, and the claim is
+-- closed; or there was no room
+pub record GivesWay (id way : ℕ) (old new : Token) : Type 0 where
+  pub hints : ℕ
+  pub grows :
+      Grows
+      (cleared (group_for old id) ∷ named way id ∷ touched old.number (hinted (group_of_way way) hints)
+      ∷ looks 3 old.number) old new
+  pub free : name_of old.seen way ≡ 0
+  pub has : HasName new way id
+
+abbrev pub Gives : ℕ → Token → Token → Result ℕ Refused → Type 0
+Gives id old new (Ok way) = GivesWay id way old new
+Gives id old new (Err why) = Grows (looks 2 old.number) old new × IsFull id new × (why ≡ refused.Full)
 
 -- the claim that was open is closed; or none was open
 abbrev pub Clears : ℕ → Token → Token → Bool → Type 0

@@ -1,6 +1,6 @@
 //! What the clerk does: it answers claims, and takes names back.
 ghost use Rattle.std.specs.Prelude.{◌≡◌, ◌<◌, ◌*◌, ◌⊎◌, IfSome, Some, None};
-ghost use Rattle.nr_ids.specs.Answers.{Admits, Clears, FindsId, FindsWay, Unnames};
+ghost use Rattle.nr_ids.specs.Answers.{Admits, AnswersClaim, Clears, FindsId, FindsWay, Gives, HasClaim, Unnames};
 ghost use Rattle.nr_ids.specs.Events.{name_of};
 ghost use Rattle.nr_ids.specs.Groups.{IsPlan, ways};
 ghost use Rattle.nr_ids.specs.Looking.{HintsNames, Rooms, SeesRoom, SetsHint};
@@ -43,21 +43,8 @@ impl Directory {
         ensures answer { Admits id clerk.old clerk.new result }
     {
         let seat = &mut clerk.seat;
-        let group = self.plan().group_of(id);
-        let turn = self.look_at_turn(seat, group);
-        if turn % 2 == 0 {
-            return Err(Refused::NoClaim);
-        }
-        if let Some(way) = self.scan(seat, id) {
-            return Err(Refused::Named(way));
-        }
-        let Some(way) = self.room_for(seat, id) else {
-            return Err(Refused::Full);
-        };
-        self.hint(seat, way, self.plan().hint_of(id));
-        self.name(seat, way, id);
-        self.close(seat, group, turn);
-        Ok(way)
+        let turn = self.answer_claim(seat, id)?;
+        self.give(seat, id, turn)
     }
 
     /// Closes the open claim of the id's group without a name, in 2 steps: whether one was open; if not,
@@ -111,6 +98,47 @@ impl Directory {
             0 => None,
             id => Some(id),
         }
+    }
+
+    /// The turn of the id's group, whose claim is open, where no way has the id's name. Else a refusal.
+    fn answer_claim(&self, seat: &mut Seat, id: u64) -> Result<u64, Refused>
+        requires clerk { Sits self.now seat.old }
+        requires number { (token seat.old).number ≡ 0 }
+        requires id { 0 < id }
+        ensures clerk { Sits self.now seat.new }
+        ensures answer { AnswersClaim id (token seat.old) (token seat.new) result }
+    {
+        let group = self.plan().group_of(id);
+        let turn = self.look_at_turn(seat, group);
+        if turn % 2 == 0 {
+            return Err(Refused::NoClaim);
+        }
+        if let Some(way) = self.scan(seat, id) {
+            return Err(Refused::Named(way));
+        }
+        Ok(turn)
+    }
+
+    /// Gives the id, which no way has, a way, and closes the open claim of its group, which has this turn.
+    /// Refuses by `Full` alone.
+    fn give(&self, seat: &mut Seat, id: u64, turn: u64) -> Result<u32, Refused>
+        requires clerk { Sits self.now seat.old }
+        requires number { (token seat.old).number ≡ 0 }
+        requires hints { HintsNames (token seat.old) }
+        requires id { 0 < id }
+        requires claim { HasClaim id turn (token seat.old) }
+        ensures clerk { Sits self.now seat.new }
+        ensures hints { HintsNames (token seat.new) }
+        ensures gives { Gives id (token seat.old) (token seat.new) result }
+    {
+        let Some(way) = self.room_for(seat, id) else {
+            return Err(Refused::Full);
+        };
+        let plan = self.plan();
+        self.hint(seat, way, plan.hint_of(id));
+        self.name(seat, way, id);
+        self.close(seat, plan.group_of(id), turn);
+        Ok(way)
     }
 
     /// A way of the id's that has no name.
