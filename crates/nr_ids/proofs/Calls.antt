@@ -230,6 +230,12 @@ module _ (plan : Plan) (id : ℕ) where
   pub at_second : (way : ℕ) → group_of_way way ≡ second_of plan id → IsWayOf plan id way
   at_second way is = (8 + way % 8, omega arith, grind (arith, way_at_second (8 + way % 8)))
 
+-- a second group by the directory's plan is one by the token's
+pub second_is : (id : ℕ) (old : Token) {second : ℕ} {plan : Plan} {now : Opened} → old.directory ≡ now
+    → plan ≡ now.plan → second ≡ second_of plan id → second ≡ second_of old.directory.plan id
+second_is id old of_now of is =
+    is ∙ ap (λ (p : Plan). second_of p id) (of ∙ ap (λ (d : Opened). d.plan) (sym of_now))
+
 -- what holds of the ways of both groups holds at each of the id's places
 pub each_place : (id first second : ℕ) (old : Token) (P : ℕ → Type 0) → first ≡ group_for old id
     → second ≡ second_of old.directory.plan id → ((at : ℕ) → at < 8 → P (way_in first at))

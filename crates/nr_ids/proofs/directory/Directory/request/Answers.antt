@@ -2,7 +2,7 @@ use Rattle.std.proofs.Common.{ap, ◌≡◌, ◌≢◌, rules, arith, refl, subs
 use Rattle.nr_ids.specs.declared.plan.Plan.{Plan}
 use Rattle.nr_ids.specs.Groups.{group_of, places}
 use Rattle.nr_ids.specs.declared.requests.Requested.TheVariants as requested
-use Rattle.nr_ids.specs.Answers.{LooksForClaim, Requests}
+use Rattle.nr_ids.specs.Answers.{FindsForClaim, LooksForClaim, Requests}
 use Rattle.nr_ids.specs.Events.{turn_of}
 use Rattle.nr_ids.specs.Scans.{Scanned}
 use Rattle.nr_ids.specs.Tokens.{Opened, Token, token}
@@ -27,6 +27,13 @@ claim-requires-clause-scanned c =
       turn_is = search rules;
       passed = missed.passed;
     })
+
+pub returns-in-Some-clause-answer : goal.returns-in-Some-clause-answer
+returns-in-Some-clause-answer c =
+    let turn = c.look_at_turn-turn in
+    let named = c.in-Some.ensures.scans in
+    subst (λ (t : Token). FindsForClaim c.args.id t (token c.scan.new.seat) c.in-Some.way) c.reader.view_is
+    (record { turned = token turn.new.seat; turn = turn.ensures.grows; finds = named })
 
 pub returns-clause-answer : goal.returns-clause-answer
 returns-clause-answer c =
