@@ -1,7 +1,7 @@
 //! Words, sets and layouts, with what they must be.
-ghost use Rattle.std.specs.Prelude.{◌<◌, ◌^◌};
+ghost use Rattle.std.specs.Prelude.{◌<◌, ◌≤◌, ◌^◌};
 
-use crate::calls::row;
+use crate::calls::{row, set_of};
 use crate::same::{are_same, is_same};
 use nr_model::{MAX_ROWS, Row, RowSet};
 use nr_words::{
@@ -9,7 +9,6 @@ use nr_words::{
     naming, opening_words, parts, same_count, word_at,
 };
 use std::process::Abort;
-use std::test::Fail;
 
 /// The parts pack into the word, and the word gives them back.
 fn assert_packs(rt: &impl Abort, ask: bool, filled: bool, slot: u32, arrivals: u64, word: u64)
@@ -91,9 +90,7 @@ const ROWS_IN_NO_ORDER: [u64; WORDS_OF_15] = [
 
 /// The set of the rows lies in these words, whatever stood there before, and comes back in order.
 fn assert_lies(rt: &impl Abort, rows: &[Row], ascending: &[Row], expected: &[u64]) {
-    let Ok(set) = RowSet::of(rows) else {
-        panic!(rt; "too many rows")
-    };
+    let set = set_of(rt, rows);
     let mut room = [u64::MAX; MAX_CONTENT_WORDS];
     let count = expected.len().min(MAX_CONTENT_WORDS);
     assert!(rt; 2 * set.len() < count);
@@ -125,9 +122,7 @@ fn one_row_fills_the_smallest_slot(rt: HostRuntime) {
 
 #[test]
 fn each_word_of_a_set_is_found_alone(rt: HostRuntime) {
-    let Ok(set) = RowSet::of(&[row(7, 1), row(3, 9)]) else {
-        panic!(rt; "too many rows")
-    };
+    let set = set_of(&rt, &[row(7, 1), row(3, 9)]);
     for (index, word) in TWO_ROWS.iter().enumerate() {
         is_same(&rt, &word_at(&set, index), word);
     }
@@ -174,9 +169,7 @@ fn the_largest_set_fills_the_largest_slot(rt: HostRuntime) {
 
 #[test]
 fn each_word_of_the_largest_set_is_found_alone(rt: HostRuntime) {
-    let Ok(set) = RowSet::of(&most_rows()) else {
-        panic!(rt; "too many rows")
-    };
+    let set = set_of(&rt, &most_rows());
     for (index, word) in words_of_most_rows().iter().enumerate() {
         is_same(&rt, &word_at(&set, index), word);
     }
@@ -225,9 +218,23 @@ fn a_page_is_a_slot_of_255_rows(rt: HostRuntime) {
     is_same(&rt, &layout.total(), &1538);
 }
 
-/// The words are those of a new map of two keys whose first count is 7 and whose first number is
-/// 3, with the departure words at these places.
-fn assert_opened(rt: &impl Abort, words: &[u64], departures: &[usize]) {
+/// The words of a new map of two keys with room for so many rows, whose first count is 7 and whose first number is 3,
+/// with that many words behind them.
+fn opened<R: Abort + AllocGlobal>(rt: &R, rows: u32, behind: u64) -> Vec<u64>
+    requires rows { rows ≤ 255 }
+    requires behind { behind < 2 ^ 40 }
+{
+    let layout = Layout {
+        keys: 2,
+        slots: 3,
+        rows,
+    };
+    opening_words(rt.alloc(), layout, 7, 3, behind).expect(rt, "memory")
+}
+
+/// So many words are those of such a map, with the departure words at these places.
+fn assert_opened(rt: &impl Abort, words: &[u64], count: usize, departures: &[usize]) {
+    is_same(rt, &words.len(), &count);
     for (place, word) in words.iter().enumerate() {
         let expected = match place {
             0 | 1 => 12,
@@ -239,20 +246,7 @@ fn assert_opened(rt: &impl Abort, words: &[u64], departures: &[usize]) {
 }
 
 #[test]
-fn a_new_map_has_holes_with_first_numbers_and_slots_with_first_counts(
-    rt: HostRuntime,
-) -> Result<(), Fail> {
-    let mut layout = Layout {
-        keys: 2,
-        slots: 3,
-        rows: 15,
-    };
-    let words = opening_words(rt.alloc(), layout, 7, 3, 0).map_err(|_| "no memory")?;
-    is_same(&rt, &words.len(), &98);
-    assert_opened(&rt, &words, &[2, 34, 66]);
-    layout.rows = 255;
-    let words = opening_words(rt.alloc(), layout, 7, 3, 2).map_err(|_| "no memory")?;
-    is_same(&rt, &words.len(), &1540);
-    assert_opened(&rt, &words, &[2, 514, 1026]);
-    Ok(())
+fn a_new_map_has_holes_with_first_numbers_and_slots_with_first_counts(rt: HostRuntime) {
+    assert_opened(&rt, &opened(&rt, 15, 0), 98, &[2, 34, 66]);
+    assert_opened(&rt, &opened(&rt, 255, 2), 1540, &[2, 514, 1026]);
 }

@@ -1,14 +1,14 @@
 //! Rows, sets, batches and the sequential map.
 ghost use Rattle.std.specs.Prelude.{◌<◌, ◌≤◌};
 
-use crate::calls::{replies, row};
+use crate::calls::{replies, row, set_of};
 use crate::same::is_same;
 use nr_model::{
     ApplyFault, Batch, BatchFault, Call, Delta, KeyState, OpenFault, Reply, Row, RowSet, SeqMap,
     TooMany,
 };
 use std::alloc::Global;
-use std::test::Fail;
+use std::process::Abort;
 
 // A row twice, since rows and signed rows are copied.
 fn added(row: Row) -> [Delta; 2] {
@@ -39,40 +39,36 @@ fn batch_of(deltas: &[Delta]) -> Result<Batch, BatchFault> {
 }
 
 #[test]
-fn batches_are_made_of_signed_rows(rt: HostRuntime) -> Result<(), Fail> {
+fn batches_are_made_of_signed_rows(rt: HostRuntime) {
     let deltas = added(row(1, 1));
-    let batch = batch_of(&deltas)?;
+    let batch = batch_of(&deltas).expect(&rt, "a batch");
     let copied = batch;
     is_same(&rt, &(batch.len(), copied.get(1)), &(2, Some(deltas[1])));
-    is_same(&rt, &batch_of(&[]).err(), &Some(BatchFault::Empty));
-    is_same(
-        &rt,
-        &batch_of(&[deltas[0]; 65]).err(),
-        &Some(BatchFault::TooLong),
-    );
-    Ok(())
+    let refused = [batch_of(&[]).err(), batch_of(&[deltas[0]; 65]).err()];
+    let wanted = [Some(BatchFault::Empty), Some(BatchFault::TooLong)];
+    is_same(&rt, &refused, &wanted);
 }
 
 // How a change of the empty set ends, of which that many rows may be left.
-fn change(batch: &Batch, rows: u32) -> Result<usize, ApplyFault>
+fn change(rt: &impl Abort, deltas: &[Delta], rows: u32) -> Result<usize, ApplyFault>
     requires { (0 < rows) × (rows ≤ 255) }
 {
-    let set: RowSet = RowSet::new().applied(batch, rows)?;
+    let batch = batch_of(deltas).expect(rt, "a batch");
+    let set: RowSet = RowSet::new().applied(&batch, rows)?;
     Ok(set.len())
 }
 
 #[test]
-fn a_batch_applies_within_a_bound(rt: HostRuntime) -> Result<(), Fail> {
+fn a_batch_applies_within_a_bound(rt: HostRuntime) {
     let [one, two] = added(row(1, 1));
     let taken = Delta { plus: false, ..one };
     let ends = [
-        change(&Batch::of(&[one, two])?, 2),
-        change(&Batch::of(&[one, two])?, 1),
-        change(&Batch::of(&[taken])?, 1),
+        change(&rt, &[one, two], 2),
+        change(&rt, &[one, two], 1),
+        change(&rt, &[taken], 1),
     ];
     let wanted = [Ok(2), Err(ApplyFault::TooMany), Err(ApplyFault::NoRow)];
     is_same(&rt, &ends, &wanted);
-    Ok(())
 }
 
 // The number that a request is sent with.
@@ -116,17 +112,18 @@ fn a_map_that_is_too_small_is_refused(rt: HostRuntime) {
 }
 
 #[test]
-fn each_call_has_its_key_and_what_it_brings(rt: HostRuntime) -> Result<(), Fail> {
-    let mut map = SeqMap::open(rt.alloc(), 2)?;
-    let set = RowSet::of(&[row(1, 1)])?;
+fn each_call_has_its_key_and_what_it_brings(rt: HostRuntime) {
+    let mut map = SeqMap::open(rt.alloc(), 2).expect(&rt, "a map");
+    let set = set_of(&rt, &[row(1, 1)]);
+    let more = batch_of(&added(row(2, 2))).expect(&rt, "a batch");
     let calls = [
         (Call::Find(1), "Hole"),
         (Call::Ask(1), "Send(0)"),
         (Call::Cancel(1), "Cancelled"),
         (Call::Ask(1), "Send(1)"),
         (Call::Fill(1, 1, set), "Done"),
-        (Call::Update(1, Batch::of(&added(row(2, 2)))?), "Done"),
+        (Call::Update(1, more), "Done"),
         (Call::Evict(1), "Evicted"),
     ];
-    replies(&rt, &mut map, &calls)
+    replies(&rt, &mut map, &calls);
 }

@@ -3,7 +3,6 @@ use crate::calls::row;
 use crate::same::is_same;
 use nr_model::RowSet;
 use nr_words::{ARRIVE, KeyParts, Layout, decode, encode, hole_word, key_word, parts, same_count};
-use std::test::Fail;
 
 #[test]
 fn words_are_packed(rt: HostRuntime) {
@@ -23,8 +22,8 @@ fn words_are_packed(rt: HostRuntime) {
 }
 
 #[test]
-fn sets_come_back_from_words(rt: HostRuntime) -> Result<(), Fail> {
-    let set = RowSet::of(&[row(7, 1), row(3, 9)])?;
+fn sets_come_back_from_words(rt: HostRuntime) {
+    let set = RowSet::of(&[row(7, 1), row(3, 9)]).expect(&rt, "a set");
     let mut words = [u64::MAX; 31];
     encode(&set, &mut words);
     let back: Option<RowSet> = decode(&words);
@@ -34,7 +33,6 @@ fn sets_come_back_from_words(rt: HostRuntime) -> Result<(), Fail> {
         &(words[4], words[5], first),
         &(1, 0, Some(Some(row(3, 9)))),
     );
-    Ok(())
 }
 
 #[test]
