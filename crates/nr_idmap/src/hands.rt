@@ -236,6 +236,7 @@ impl IdHand {
     }
 
     // Loads the word of the first way of the id's group.
+    #[inline(always)]
     fn load_line(&mut self, map: &IdMap, id: u64)
         requires own { hand_table_of self.old ≡ map.now }
         ensures own { hand_table_of self.new ≡ map.now }
@@ -246,6 +247,7 @@ impl IdHand {
     }
 
     // Finds what the way has that had the id's name, and holds it if it is the id's set.
+    #[inline(always)]
     fn hold_in(&mut self, map: &IdMap, way: u32, id: u64) -> FoundId
         requires own { hand_table_of self.old ≡ map.now }
         requires way { way < map.now.map.shape.keys }
