@@ -5,6 +5,7 @@ mod changes;
 mod claims;
 mod opened;
 mod rooms;
+mod scenes;
 mod sleeps;
 mod threads;
 mod turns;

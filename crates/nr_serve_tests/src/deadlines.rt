@@ -1,7 +1,7 @@
 //! Gets with a limit of time: those that are too late, and those that end before, with rows or without.
 ghost use Rattle.std.specs.Prelude.{◌≡◌, ◌<◌};
 
-use crate::opened::{Asking, Plain, Serving, end_client, end_flow, one_row, opened};
+use crate::opened::{Asking, Plain, Serving, end_both, end_client, end_flow, one_row, opened};
 use crate::same::is_same;
 use nr_model::Row;
 use nr_serve::{Client, Dataflow, Got, OpenGate, Turn};
@@ -68,7 +68,7 @@ fn a_get_that_sleeps_too_long_is_too_late(rt: HostRuntime) {
     let (service, tokens) = opened(&rt, 4);
     let (mut client, mut flow) = tokens.opens(&service, &OpenGate, Plain { bound: 0 });
     is_late_and_filled(&rt, &mut client, &mut flow);
-    is_same(&rt, &(end_client(client), end_flow(flow)), &(false, false));
+    end_both(&rt, client, flow);
 }
 
 // Gets key 0 within a minute.

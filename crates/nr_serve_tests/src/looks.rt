@@ -15,7 +15,7 @@ const WAITS: u32 = 100;
 const TIMES: u32 = 20;
 
 /// A wait for more than no raise of key 0, whose time is past, or a look at its count and at whether the lobby is closed.
-#[derive(Clone, Copy, Debug)]
+#[derive(Clone, Copy)]
 enum Deed {
     Wait(Instant),
     Look,

@@ -295,16 +295,19 @@ pub(crate) fn end_client<G: Gate>(client: Client<'_, G>) -> bool {
     }
 }
 
-/// Ends a dataflow: whether it kept a trigger, which is spent.
-pub(crate) fn end_flow<S: FallibleSource + Drop>(flow: Dataflow<'_, S>) -> bool {
+/// Ends a dataflow: the key of the trigger that it kept, which is spent.
+pub(crate) fn end_flow<S: FallibleSource + Drop>(flow: Dataflow<'_, S>) -> Option<u32> {
     let (_writer, _taker, kept, _source) = flow.end();
-    match kept {
-        Some(trigger) => {
-            trigger.into_key();
-            true
-        }
-        None => false,
-    }
+    Some(kept?.into_key())
+}
+
+/// Ends a client and a dataflow, which keep nothing.
+pub(crate) fn end_both<G: Gate, S: FallibleSource + Drop, R: Abort>(
+    rt: &R,
+    client: Client<'_, G>,
+    flow: Dataflow<'_, S>,
+) {
+    is_same(rt, &(end_client(client), end_flow(flow)), &(false, None));
 }
 
 // A get of one try.

@@ -96,7 +96,7 @@ fn keeps_its_ticket<R: Abort + Wait>(rt: &R, parts: Parts) {
     let mut flow = Dataflow::open(&map, writer, &triggers, taker, Plain { bound: 0 }, &lobby);
     keeps_until_posted(rt, &mut first, &mut second, &mut flow);
     let kept = (end_client(first), end_client(second), end_flow(flow));
-    is_same(rt, &kept, &(false, false, false));
+    is_same(rt, &kept, &(false, false, None));
 }
 
 #[test]
@@ -145,11 +145,7 @@ fn ends_with_its_trigger<R: Abort + Wait>(rt: &R, parts: Parts) {
     let mut flow = Dataflow::open(&map, writer, &triggers, taker, Plain { bound: 0 }, &lobby);
     is_held_back(rt, &map, two.0, &mut client, &mut flow);
     end_client(client);
-    let (_writer, _taker, kept, _source) = flow.end();
-    match kept {
-        Some(trigger) => is_same(rt, &trigger.into_key(), &0),
-        None => panic!(rt; "a trigger was kept"),
-    }
+    is_same(rt, &end_flow(flow), &Some(0));
 }
 
 #[test]

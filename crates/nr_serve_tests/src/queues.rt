@@ -53,35 +53,23 @@ fn taken(rt: &impl Wait, triggers: &Triggers, taker: &mut Taker) -> Option<u32>
     Some(triggers.take(rt, taker)?.into_key())
 }
 
-// A queue that is opened by the second try, where memory was refused once.
-fn small_queue_of(
-    alloc: Global,
-    capacity: u32,
-    posters: u32,
-) -> Result<(Triggers, Vec<Poster>, Taker), OpenFault> {
-    match Triggers::open(alloc, capacity, posters) {
-        Err(OpenFault::Memory) => Triggers::open(alloc, capacity, posters),
-        opened => opened,
+// Why a queue is refused, if it is, at the second try where memory was refused once.
+fn small_queue(alloc: Global, capacity: u32, posters: u32) -> Option<OpenFault> {
+    match Triggers::open(alloc, capacity, posters).err() {
+        Some(OpenFault::Memory) => Triggers::open(alloc, capacity, posters).err(),
+        refused => refused,
     }
 }
 
 // The same of a queue whose sizes may be large.
-fn large_queue_of(
-    alloc: Global,
-    capacity: u32,
-    posters: u32,
-) -> Result<(Triggers, Vec<Poster>, Taker), OpenFault> {
-    match Triggers::open_large(alloc, capacity, posters) {
-        Err(OpenFault::Memory) => Triggers::open_large(alloc, capacity, posters),
-        opened => opened,
+fn large_queue(alloc: Global, capacity: u32, posters: u32) -> Option<OpenFault> {
+    match Triggers::open_large(alloc, capacity, posters).err() {
+        Some(OpenFault::Memory) => Triggers::open_large(alloc, capacity, posters).err(),
+        refused => refused,
     }
 }
 
-fn large_map_of(
-    alloc: Global,
-    keys: u32,
-    readers: u32,
-) -> Result<(ReaderMap, Writer, Vec<Reader>), OpenFault> {
+fn large_map(alloc: Global, keys: u32, readers: u32) -> Option<OpenFault> {
     let shape = Shape {
         keys,
         slots: keys,
@@ -90,24 +78,24 @@ fn large_map_of(
         first_number: 0,
         rows: 1,
     };
-    match ReaderMap::open_large(alloc, &shape) {
-        Err(OpenFault::Memory) => ReaderMap::open_large(alloc, &shape),
-        opened => opened,
+    match ReaderMap::open_large(alloc, &shape).err() {
+        Some(OpenFault::Memory) => ReaderMap::open_large(alloc, &shape).err(),
+        refused => refused,
     }
 }
 
 #[test]
 fn refused_memory_is_told_and_opens_nothing(rt: HostRuntime) {
-    assert!(rt; small_queue_of(rt.alloc(), 3, 2).is_ok());
-    assert!(rt; large_queue_of(rt.alloc(), 65_537, 1_025).is_ok());
-    assert!(rt; large_map_of(rt.alloc(), 131_073, 1_025).is_ok());
+    is_same(&rt, &small_queue(rt.alloc(), 3, 2), &None);
+    is_same(&rt, &large_queue(rt.alloc(), 65_537, 1_025), &None);
+    is_same(&rt, &large_map(rt.alloc(), 131_073, 1_025), &None);
 }
 
 // How each opening of those sizes is refused, where it is.
 fn refused(alloc: Global, capacity: u32, posters: u32) -> [Option<OpenFault>; 2] {
     [
-        small_queue_of(alloc, capacity, posters).err(),
-        large_queue_of(alloc, capacity, posters).err(),
+        small_queue(alloc, capacity, posters),
+        large_queue(alloc, capacity, posters),
     ]
 }
 
@@ -246,7 +234,7 @@ fn assert_in_order(rt: &impl Abort, keys: [u32; 20]) {
             high += 1;
         }
     }
-    assert_eq!(rt; (low, high), (10, 20));
+    is_same(rt, &(low, high), &(10, 20));
 }
 
 #[test]

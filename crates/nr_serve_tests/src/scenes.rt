@@ -79,42 +79,61 @@ fn hears_and_finds<R: Abort + Wait>(
     is_same(rt, &(applied.is_ok(), rows.get(1)), &(true, Some(ADDED)));
 }
 
-#[test]
-fn nobody_sleeps_in_a_closed_lobby(rt: HostRuntime) {
-    let (service, tokens) = opened(&rt, 4);
-    let gate = Noting::from(1);
-    let (mut client, flow) = tokens.opens(&service, &gate, Plain { bound: 0 });
-    gives_up(&rt, service.lobby(), &mut client);
+#[derive(Clone, Copy)]
+enum Scene {
+    GivesUp,
+    IsBarred,
+    KeepsTrigger,
+    HearsAndFinds,
+}
+
+impl Scene {
+    fn play<R: Abort + Wait>(
+        self,
+        rt: &R,
+        lobby: &Lobby,
+        gate: &Noting,
+        client: &mut Client<'_, Noting>,
+        flow: &mut Dataflow<'_, Plain>,
+    )
+        requires client { client.old.map.shape.keys ≡ 2 }
+        requires flow { flow.old.map ≡ client.old.map }
+    {
+        match self {
+            Scene::GivesUp => gives_up(rt, lobby, client),
+            Scene::IsBarred => is_barred_and_passes(rt, gate, client, flow),
+            Scene::KeepsTrigger => keeps_its_trigger(rt, client, flow),
+            Scene::HearsAndFinds => hears_and_finds(rt, client, flow),
+        }
+    }
+}
+
+// In a map of that many slots, with a gate that lets the client pass from its get of that number on.
+fn plays<R: Abort + Wait + AllocGlobal>(rt: &R, scene: Scene, slots: u32, first: u64) {
+    let (service, tokens) = opened(rt, slots);
+    let gate = Noting::from(first);
+    let (mut client, mut flow) = tokens.opens(&service, &gate, Plain { bound: 0 });
+    scene.play(rt, service.lobby(), &gate, &mut client, &mut flow);
     end_client(client);
     end_flow(flow);
+}
+
+#[test]
+fn nobody_sleeps_in_a_closed_lobby(rt: HostRuntime) {
+    plays(&rt, Scene::GivesUp, 4, 1);
 }
 
 #[test]
 fn a_gate_that_never_lets_pass_bars_a_get(rt: HostRuntime) {
-    let (service, tokens) = opened(&rt, 4);
-    let gate = Noting::from(3);
-    let (mut client, mut flow) = tokens.opens(&service, &gate, Plain { bound: 0 });
-    is_barred_and_passes(&rt, &gate, &mut client, &mut flow);
-    end_client(client);
-    end_flow(flow);
+    plays(&rt, Scene::IsBarred, 4, 3);
 }
 
 #[test]
 fn a_turn_without_a_slot_keeps_its_trigger(rt: HostRuntime) {
-    let (service, tokens) = opened(&rt, 1);
-    let gate = Noting::from(1);
-    let (mut client, mut flow) = tokens.opens(&service, &gate, Plain { bound: 0 });
-    keeps_its_trigger(&rt, &mut client, &mut flow);
-    end_client(client);
-    end_flow(flow);
+    plays(&rt, Scene::KeepsTrigger, 1, 1);
 }
 
 #[test]
 fn a_client_that_is_told_finds_what_was_applied(rt: HostRuntime) {
-    let (service, tokens) = opened(&rt, 4);
-    let gate = Noting::from(1);
-    let (mut client, mut flow) = tokens.opens(&service, &gate, Plain { bound: 0 });
-    hears_and_finds(&rt, &mut client, &mut flow);
-    end_client(client);
-    end_flow(flow);
+    plays(&rt, Scene::HearsAndFinds, 4, 1);
 }

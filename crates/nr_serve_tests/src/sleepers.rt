@@ -13,7 +13,7 @@ use std::time::{Clock, Duration};
 const GROUPS: u32 = 64;
 
 /// What a thread sleeps for: a raise of the whole lobby, or one for a key, by the lobby's own call or as a client does.
-#[derive(Clone, Copy, Debug)]
+#[derive(Clone, Copy)]
 enum Cause {
     Whole,
     Key(u32),
@@ -57,7 +57,7 @@ impl Sleeper {
 }
 
 /// What is done once all sleep.
-#[derive(Clone, Copy, Debug)]
+#[derive(Clone, Copy)]
 enum Deed {
     Raise,
     RaiseFor(u32),

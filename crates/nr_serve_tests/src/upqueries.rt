@@ -2,7 +2,7 @@
 ghost use Rattle.std.specs.Prelude.{◌≡◌, ◌<◌, IfSome, None};
 
 use crate::gates::Noting;
-use crate::opened::{Tokens, end_client, end_flow, gets, misses, one_row, opened, opened_from};
+use crate::opened::{Tokens, end_both, gets, misses, one_row, opened, opened_from};
 use crate::same::{are_same, is_same};
 use nr_map::{Cancel, Evict};
 use nr_model::{Row, RowSet};
@@ -33,7 +33,7 @@ impl FallibleSource for Faulty {
 type Flow<'a> = Dataflow<'a, Faulty>;
 
 /// What becomes of a trigger.
-#[derive(Clone, Copy, Debug)]
+#[derive(Clone, Copy)]
 enum Act {
     Fill,
     Fail,
@@ -80,6 +80,15 @@ fn comes_to<R: Abort + Wait>(
     is_same(rt, &ends(rt, flow, trigger, act), &wanted);
 }
 
+// A trigger is filled so.
+fn is_filled<R: Abort + Wait>(rt: &R, flow: &mut Flow<'_>, trigger: Option<Trigger>)
+    requires key { IfSome trigger (λ trigger. trigger.upquery.key < 2) }
+    requires sizes { (flow.old.map.shape.keys ≡ 2) × (flow.old.map.shape.rows ≡ 15) }
+    ensures { flow.new.map ≡ flow.old.map }
+{
+    comes_to(rt, flow, trigger, Act::Fill, Some(Spent::Filled));
+}
+
 // The next turn.
 fn turns<R: Abort + Wait>(rt: &R, flow: &mut Flow<'_>, wanted: TryTurn)
     ensures { flow.new.map ≡ flow.old.map }
@@ -117,19 +126,35 @@ fn finds<R: Abort + Wait>(rt: &R, client: &mut Client<'_, Noting>, key: u32, b: 
     are_same(rt, rows.as_slice(), [row].as_slice());
 }
 
+// The triggers of keys 0 and 1, both under way.
+fn takes_both<R: Abort + Wait>(
+    rt: &R,
+    client: &mut Client<'_, Noting>,
+    flow: &mut Flow<'_>,
+) -> (Option<Trigger>, Option<Trigger>)
+    requires client { client.old.map.shape.keys ≡ 2 }
+    requires flow { flow.old.map.shape.keys ≡ 2 }
+    ensures one { let (one, _) = result in IfSome one (λ trigger. trigger.upquery.key < 2) }
+    ensures two { let (_, two) = result in IfSome two (λ trigger. trigger.upquery.key < 2) }
+    ensures client { client.new.map ≡ client.old.map }
+    ensures flow { flow.new.map ≡ flow.old.map }
+{
+    misses(rt, client, 0);
+    misses(rt, client, 1);
+    let one = takes(rt, flow);
+    (one, takes(rt, flow))
+}
+
 // Two triggers are under way, and the second is filled first.
 fn out_of_order<R: Abort + Wait>(rt: &R, client: &mut Client<'_, Noting>, flow: &mut Flow<'_>)
     requires client { client.old.map.shape.keys ≡ 2 }
     requires sizes { (flow.old.map.shape.keys ≡ 2) × (flow.old.map.shape.rows ≡ 15) }
 {
-    misses(rt, client, 0);
-    misses(rt, client, 1);
-    let one = takes(rt, flow);
-    let two = takes(rt, flow);
-    comes_to(rt, flow, two, Act::Fill, Some(Spent::Filled));
+    let (one, two) = takes_both(rt, client, flow);
+    is_filled(rt, flow, two);
     finds(rt, client, 1, 7);
     misses(rt, client, 0);
-    comes_to(rt, flow, one, Act::Fill, Some(Spent::Filled));
+    is_filled(rt, flow, one);
     finds(rt, client, 0, 7);
 }
 
@@ -145,6 +170,15 @@ fn source_fails<R: Abort + Wait>(rt: &R, client: &mut Client<'_, Noting>, flow: 
     misses(rt, client, 0);
     is_same(rt, &flow.try_turn_or_sleep(rt), &TryTurn::Filled(0));
     is_same(rt, &client.sends(), &2);
+    finds(rt, client, 0, 5);
+}
+
+// The next turn fills key 0. The client is told of no failure, and finds it.
+fn is_filled_at_last<R: Abort + Wait>(rt: &R, client: &mut Client<'_, Noting>, flow: &mut Flow<'_>)
+    requires { client.old.map.shape.keys ≡ 2 }
+{
+    turns(rt, flow, TryTurn::Filled(0));
+    failures(rt, client, 0);
     finds(rt, client, 0, 5);
 }
 
@@ -164,9 +198,7 @@ fn comes_late<R: Abort + Wait>(
     misses(rt, client, 0);
     comes_to(rt, flow, late, act, Some(Spent::Passed));
     misses(rt, client, 0);
-    turns(rt, flow, TryTurn::Filled(0));
-    failures(rt, client, 0);
-    finds(rt, client, 0, 5);
+    is_filled_at_last(rt, client, flow);
 }
 
 // There is one slot. The trigger that found none is kept, and comes out first.
@@ -174,15 +206,12 @@ fn finds_no_slot<R: Abort + Wait>(rt: &R, client: &mut Client<'_, Noting>, flow:
     requires client { client.old.map.shape.keys ≡ 2 }
     requires sizes { (flow.old.map.shape.keys ≡ 2) × (flow.old.map.shape.rows ≡ 15) }
 {
-    misses(rt, client, 0);
-    misses(rt, client, 1);
-    let one = takes(rt, flow);
-    let two = takes(rt, flow);
-    comes_to(rt, flow, one, Act::Fill, Some(Spent::Filled));
+    let (one, two) = takes_both(rt, client, flow);
+    is_filled(rt, flow, one);
     comes_to(rt, flow, two, Act::Fill, None);
     is_same(rt, &flow.evict(0), &Evict::Evicted);
     let two = takes(rt, flow);
-    comes_to(rt, flow, two, Act::Fill, Some(Spent::Filled));
+    is_filled(rt, flow, two);
     finds(rt, client, 1, 7);
 }
 
@@ -196,9 +225,7 @@ fn wears<R: Abort + Wait>(rt: &R, client: &mut Client<'_, Noting>, flow: &mut Fl
     let trigger = takes(rt, flow);
     comes_to(rt, flow, trigger, Act::Fail, None);
     turns(rt, flow, TryTurn::Worn(0));
-    turns(rt, flow, TryTurn::Filled(0));
-    failures(rt, client, 0);
-    finds(rt, client, 0, 5);
+    is_filled_at_last(rt, client, flow);
 }
 
 // A look that finds nothing, and a sleep that a ring ends which came since the bell was read.
@@ -216,7 +243,7 @@ fn sleeps_once<R: Abort + Wait>(rt: &R, lobby: &Lobby, flow: &mut Flow<'_>)
     }
 }
 
-#[derive(Clone, Copy, Debug)]
+#[derive(Clone, Copy)]
 enum Scene {
     OutOfOrder,
     SourceFails,
@@ -255,7 +282,7 @@ fn play_in<R: Abort + Wait>(rt: &R, scene: Scene, service: &Service, tokens: Tok
     let gate = Noting::from(1);
     let (mut client, mut flow) = tokens.opens(service, &gate, Faulty { faults: 0 });
     scene.play(rt, service.lobby(), &mut client, &mut flow);
-    is_same(rt, &(end_client(client), end_flow(flow)), &(false, false));
+    end_both(rt, client, flow);
 }
 
 // In a map of that many slots.

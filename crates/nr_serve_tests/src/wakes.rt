@@ -22,7 +22,7 @@ fn pause<R: Clock>(rt: &R) {
 }
 
 /// What is to wake a thread that sleeps: what it sleeps for, or the end.
-#[derive(Clone, Copy, Debug)]
+#[derive(Clone, Copy)]
 enum Cause {
     Work,
     Close,
@@ -41,7 +41,7 @@ fn was_idle<R: CpuClock>(rt: &R, since: Duration) -> bool {
 }
 
 /// What a client tells that slept: how its get ended, how many requests were sent, and whether it was idle meanwhile.
-#[derive(Clone, Copy, Debug, PartialEq, Eq)]
+#[derive(Clone, Copy)]
 struct Slept {
     got: Got,
     sends: u64,
@@ -200,13 +200,11 @@ fn client_is_woken<R: Threads + Wait + Clock + CpuClock + Sync + AllocGlobal + A
 ) {
     let (service, tokens) = opened(rt, 4);
     let (asking, serving) = tokens.sides(&service);
-    let woken = client_sleeps(rt, asking, serving, cause);
-    let slept = Slept {
-        got,
-        sends,
-        is_idle: true,
+    let Some((slept, is_awake)) = client_sleeps(rt, asking, serving, cause) else {
+        panic!(rt; "a thread was refused");
     };
-    is_same(rt, &woken, &Some((slept, true)));
+    is_same(rt, &(slept.got, slept.sends), &(got, sends));
+    is_same(rt, &(slept.is_idle, is_awake), &(true, true));
 }
 
 // A dataflow comes back by that cause, idle until then.

@@ -1,7 +1,7 @@
 //! Gets of a worker, one after another in one thread.
 ghost use Rattle.std.specs.Prelude.{◌≡◌, ◌≤◌, length};
 
-use crate::opened::{end_client, end_flow, misses, one_row, opened};
+use crate::opened::{end_both, misses, one_row, opened};
 use crate::same::is_same;
 use nr_load::{Draws, LoadFault, Worked, load_gets};
 use nr_model::RowSet;
@@ -43,26 +43,48 @@ fn works<R: Abort + Wait + AllocGlobal>(
     is_same(rt, &worked, wanted);
 }
 
-// Rows of a source that lies are told, and no get is begun in a closed lobby.
-#[test]
-fn wrong_rows_are_told_and_a_closed_lobby_has_no_gets(rt: HostRuntime) {
-    let (service, tokens) = opened(&rt, 4);
-    let (mut client, mut flow) = tokens.opens(&service, &OpenGate, Liar);
-    lies(&rt, &mut client, &mut flow);
+// A worker finds that the rows are wrong.
+fn finds_lies<R: Abort + Wait + AllocGlobal>(
+    rt: &R,
+    client: &mut Client<'_, OpenGate>,
+    lobby: &Lobby,
+)
+    requires { client.old.map.shape.keys ≡ 2 }
+    ensures { client.new.map ≡ client.old.map }
+{
     let lied = Worked {
         made: 1,
         answered: 1,
         stopped: false,
         fault: Some(LoadFault::WrongRows),
     };
-    works(&rt, &mut client, service.lobby(), &lied);
-    service.lobby().close(&rt);
+    works(rt, client, lobby, &lied);
+}
+
+// A worker makes no get, since the lobby is closed.
+fn is_stopped<R: Abort + Wait + AllocGlobal>(
+    rt: &R,
+    client: &mut Client<'_, OpenGate>,
+    lobby: &Lobby,
+)
+    requires { client.old.map.shape.keys ≡ 2 }
+{
+    lobby.close(rt);
     let closed = Worked {
         made: 0,
         answered: 0,
         stopped: true,
         fault: None,
     };
-    works(&rt, &mut client, service.lobby(), &closed);
-    is_same(&rt, &(end_client(client), end_flow(flow)), &(false, false));
+    works(rt, client, lobby, &closed);
+}
+
+#[test]
+fn wrong_rows_are_told_and_a_closed_lobby_has_no_gets(rt: HostRuntime) {
+    let (service, tokens) = opened(&rt, 4);
+    let (mut client, mut flow) = tokens.opens(&service, &OpenGate, Liar);
+    lies(&rt, &mut client, &mut flow);
+    finds_lies(&rt, &mut client, service.lobby());
+    is_stopped(&rt, &mut client, service.lobby());
+    end_both(&rt, client, flow);
 }

@@ -2,20 +2,14 @@
 ghost use Rattle.std.specs.Prelude.{◌≡◌, ◌<◌};
 ghost use Rattle.nr_idmap.specs.Keepers.{id_rows};
 
-use crate::by_id::opened::{Without, ends, fails, fills, finds, gets, opened, takes, takes_none};
+use crate::by_id::opened::{asks, brings, fails, is_idle, misses, takes};
+use crate::by_id::scenes::{Scene, plays};
 use crate::same::is_same;
 use nr_idmap::Evict;
-use nr_idserve::{GotId, IdClient, IdDataflow, NoVictims};
-use nr_model::Row;
+use nr_idserve::{IdClient, IdDataflow};
 use nr_serve::Spent;
 use std::process::Abort;
 use std::sync::Wait;
-
-fn is_idle<R: Abort + Wait>(rt: &R, flow: &mut IdDataflow<'_>)
-    ensures { flow.new.map ≡ flow.old.map }
-{
-    takes_none(rt, flow, &mut NoVictims, Without::Idle);
-}
 
 fn evicts<R: Abort + Wait>(rt: &R, flow: &mut IdDataflow<'_>, id: u64, wanted: Evict)
     requires { 0 < id }
@@ -30,13 +24,11 @@ fn is_asked_once<R: Abort + Wait>(rt: &R, client: &mut IdClient<'_>, flow: &mut 
     ensures { flow.new.map ≡ flow.old.map }
 {
     is_idle(rt, flow);
-    gets(rt, client, 1, GotId::GaveUp);
-    gets(rt, client, 1, GotId::GaveUp);
-    let upquery = takes(rt, flow);
-    gets(rt, client, 1, GotId::GaveUp);
+    misses(rt, client, 1);
+    let upquery = asks(rt, client, flow, 1);
+    misses(rt, client, 1);
     is_idle(rt, flow);
-    fills(rt, flow, upquery, 5);
-    finds(rt, client, 1, &[Row { a: 1, b: 5 }]);
+    brings(rt, client, flow, upquery, 1, 5);
 }
 
 // An upquery is kept, and ended then since a change has overtaken it.
@@ -55,34 +47,50 @@ fn is_invalidated<R: Abort + Wait>(rt: &R, flow: &mut IdDataflow<'_>)
     }
 }
 
-// It is asked anew once the upquery ended without rows, and once its rows are evicted.
-fn is_asked_anew<R: Abort + Wait>(rt: &R, client: &mut IdClient<'_>, flow: &mut IdDataflow<'_>)
-    requires { 0 < id_rows flow.old.map }
+// An id is asked anew once its upquery ended without rows.
+fn fails_and_is_asked_anew<R: Abort + Wait>(
+    rt: &R,
+    client: &mut IdClient<'_>,
+    flow: &mut IdDataflow<'_>,
+)
+    ensures { flow.new.map ≡ flow.old.map }
 {
-    gets(rt, client, 2, GotId::GaveUp);
-    let failed = takes(rt, flow);
+    let failed = asks(rt, client, flow, 2);
     fails(rt, flow, failed);
-    gets(rt, client, 2, GotId::GaveUp);
+    misses(rt, client, 2);
     is_invalidated(rt, flow);
     is_same(rt, &client.failures_for(2), &1);
-    gets(rt, client, 2, GotId::GaveUp);
-    let upquery = takes(rt, flow);
+}
+
+// It is asked anew once its rows are evicted.
+fn is_evicted_and_asked_anew<R: Abort + Wait>(
+    rt: &R,
+    client: &mut IdClient<'_>,
+    flow: &mut IdDataflow<'_>,
+)
+    requires { 0 < id_rows flow.old.map }
+{
+    let upquery = asks(rt, client, flow, 2);
     evicts(rt, flow, 2, Evict::Nothing);
-    fills(rt, flow, upquery, 6);
-    finds(rt, client, 2, &[Row { a: 1, b: 6 }]);
+    brings(rt, client, flow, upquery, 2, 6);
     evicts(rt, flow, 2, Evict::Evicted);
-    gets(rt, client, 2, GotId::GaveUp);
-    let again = takes(rt, flow);
-    fills(rt, flow, again, 7);
-    finds(rt, client, 2, &[Row { a: 1, b: 7 }]);
+    let again = asks(rt, client, flow, 2);
+    brings(rt, client, flow, again, 2, 7);
+}
+
+pub(crate) fn asks_once<R: Abort + Wait>(
+    rt: &R,
+    client: &mut IdClient<'_>,
+    flow: &mut IdDataflow<'_>,
+)
+    requires { 0 < id_rows flow.old.map }
+{
+    is_asked_once(rt, client, flow);
+    fails_and_is_asked_anew(rt, client, flow);
+    is_evicted_and_asked_anew(rt, client, flow);
 }
 
 #[test]
 fn an_absence_is_asked_once(rt: HostRuntime) {
-    let (service, tokens) = opened(&rt, 1, 4);
-    let (mut client, mut flow) = tokens.opens(&service);
-    is_asked_once(&rt, &mut client, &mut flow);
-    is_asked_anew(&rt, &mut client, &mut flow);
-    ends(&rt, client, flow, None);
-    let (_map, _claims, _lobby) = service.into_parts();
+    plays(&rt, Scene::AsksOnce, 1, 4, None);
 }

@@ -4,9 +4,10 @@ ghost use Rattle.nr_model.specs.Batches.{IsBatch};
 ghost use Rattle.nr_idmap.specs.Keepers.{id_rows};
 ghost use Rattle.nr_idmap.specs.Tags.{AreIdDeltas};
 
-use crate::by_id::opened::{ends, fills, finds, gets, opened, takes};
+use crate::by_id::opened::{asks, fills, finds};
+use crate::by_id::scenes::{Scene, plays};
 use nr_idmap::are_id_deltas;
-use nr_idserve::{GotId, IdClient, IdDataflow};
+use nr_idserve::{IdClient, IdDataflow};
 use nr_model::{Batch, Delta, Row};
 use std::process::Abort;
 use std::sync::Wait;
@@ -28,8 +29,7 @@ fn changes<R: Abort + Wait>(rt: &R, client: &mut IdClient<'_>, flow: &mut IdData
     ensures client { client.new.map ≡ client.old.map }
     ensures flow { flow.new.map ≡ flow.old.map }
 {
-    gets(rt, client, 1, GotId::GaveUp);
-    let upquery = takes(rt, flow);
+    let upquery = asks(rt, client, flow, 1);
     fills(rt, flow, upquery, 5);
     assert!(rt; flow.update(1, one_more(rt).as_slice()).is_ok());
     finds(rt, client, 1, &[Row { a: 1, b: 5 }, Row { a: 2, b: 7 }]);
@@ -49,11 +49,19 @@ fn tell<R: Abort + Wait>(rt: &R, client: &mut IdClient<'_>, flow: &mut IdDataflo
     finds(rt, client, 1, &[Row { a: 3, b: 1 }]);
 }
 
+pub(crate) fn changes_and_tells<R: Abort + Wait>(
+    rt: &R,
+    client: &mut IdClient<'_>,
+    flow: &mut IdDataflow<'_>,
+)
+    requires map { flow.old.map ≡ client.old.map }
+    requires room { 0 < id_rows flow.old.map }
+{
+    changes(rt, client, flow);
+    tell(rt, client, flow);
+}
+
 #[test]
 fn rows_change_and_notes_tell(rt: HostRuntime) {
-    let (service, tokens) = opened(&rt, 1, 4);
-    let (mut client, mut flow) = tokens.opens(&service);
-    changes(&rt, &mut client, &mut flow);
-    tell(&rt, &mut client, &mut flow);
-    ends(&rt, client, flow, None);
+    plays(&rt, Scene::ChangesRows, 1, 4, None);
 }

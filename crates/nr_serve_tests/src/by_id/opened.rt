@@ -193,6 +193,14 @@ pub(crate) fn gets<R: Abort + Wait>(rt: &R, client: &mut IdClient<'_>, id: u64, 
     is_same(rt, &client.get(rt, id, 1, &mut rows), &wanted);
 }
 
+/// A get of one try finds no rows.
+pub(crate) fn misses<R: Abort + Wait>(rt: &R, client: &mut IdClient<'_>, id: u64)
+    requires { 0 < id }
+    ensures { client.new.map ≡ client.old.map }
+{
+    gets(rt, client, id, GotId::GaveUp);
+}
+
 /// A get of one try finds just these rows.
 pub(crate) fn finds<R: Abort + Wait>(rt: &R, client: &mut IdClient<'_>, id: u64, wanted: &[Row])
     requires { 0 < id }
@@ -203,8 +211,16 @@ pub(crate) fn finds<R: Abort + Wait>(rt: &R, client: &mut IdClient<'_>, id: u64,
     are_same(rt, rows.as_slice(), wanted);
 }
 
+/// A get of one try finds just the row `1:b`.
+pub(crate) fn finds_one<R: Abort + Wait>(rt: &R, client: &mut IdClient<'_>, id: u64, b: u64)
+    requires { 0 < id }
+    ensures { client.new.map ≡ client.old.map }
+{
+    finds(rt, client, id, &[Row { a: 1, b }]);
+}
+
 /// A take that finds no upquery.
-#[derive(Clone, Copy, Debug, PartialEq, Eq)]
+#[derive(Clone, Copy)]
 pub(crate) enum Without {
     Passed(u64),
     Full(u64),
@@ -229,17 +245,29 @@ pub(crate) fn take_by<V: Victims, R: Abort + Wait>(
     }
 }
 
-/// The next take finds none.
-pub(crate) fn takes_none<V: Victims, R: Abort + Wait>(
+/// The next take finds nothing.
+pub(crate) fn is_idle<R: Abort + Wait>(rt: &R, flow: &mut IdDataflow<'_>)
+    ensures { flow.new.map ≡ flow.old.map }
+{
+    match take_by(rt, flow, &mut NoVictims) {
+        Err(Without::Idle) => {}
+        Err(Without::Passed(_) | Without::Full(_)) => panic!(rt; "no claim"),
+        Ok(_upquery) => panic!(rt; "no upquery"),
+    }
+}
+
+/// The next take finds the claim of that id, whose group has no way.
+pub(crate) fn is_full<V: Victims, R: Abort + Wait>(
     rt: &R,
     flow: &mut IdDataflow<'_>,
     victims: &mut V,
-    wanted: Without,
+    id: u64,
 )
-    ensures places { flow.new.map ≡ flow.old.map }
+    ensures { flow.new.map ≡ flow.old.map }
 {
     match take_by(rt, flow, victims) {
-        Err(without) => is_same(rt, &without, &wanted),
+        Err(Without::Full(full)) => is_same(rt, &full, &id),
+        Err(Without::Passed(_) | Without::Idle) => panic!(rt; "the claim is open"),
         Ok(_upquery) => panic!(rt; "no upquery"),
     }
 }
@@ -256,6 +284,22 @@ pub(crate) fn takes<R: Abort + Wait>(rt: &R, flow: &mut IdDataflow<'_>) -> Upque
     }
 }
 
+/// The upquery of an id that a get misses.
+pub(crate) fn asks<R: Abort + Wait>(
+    rt: &R,
+    client: &mut IdClient<'_>,
+    flow: &mut IdDataflow<'_>,
+    id: u64,
+) -> Upquery
+    requires { 0 < id }
+    ensures own { result.table ≡ flow.old.map }
+    ensures flow { flow.new.map ≡ flow.old.map }
+    ensures client { client.new.map ≡ client.old.map }
+{
+    misses(rt, client, id);
+    takes(rt, flow)
+}
+
 /// Fills an upquery with the row `1:b`.
 pub(crate) fn fills<R: Abort + Wait>(rt: &R, flow: &mut IdDataflow<'_>, upquery: Upquery, b: u64)
     requires own { upquery.table ≡ flow.old.map }
@@ -267,6 +311,25 @@ pub(crate) fn fills<R: Abort + Wait>(rt: &R, flow: &mut IdDataflow<'_>, upquery:
         Ok(spent) => is_same(rt, &spent, &Spent::Filled),
         Err((_upquery, _counts)) => panic!(rt; "a slot"),
     }
+}
+
+/// Fills the upquery of that id with the row `1:b`, which a get finds then.
+pub(crate) fn brings<R: Abort + Wait>(
+    rt: &R,
+    client: &mut IdClient<'_>,
+    flow: &mut IdDataflow<'_>,
+    upquery: Upquery,
+    id: u64,
+    b: u64,
+)
+    requires own { upquery.table ≡ flow.old.map }
+    requires room { 0 < id_rows flow.old.map }
+    requires id { 0 < id }
+    ensures flow { flow.new.map ≡ flow.old.map }
+    ensures client { client.new.map ≡ client.old.map }
+{
+    fills(rt, flow, upquery, b);
+    finds_one(rt, client, id, b);
 }
 
 /// Ends an upquery whose rows can't be had.

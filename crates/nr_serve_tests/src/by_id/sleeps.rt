@@ -3,8 +3,9 @@ ghost use Rattle.std.specs.Prelude.{◌≡◌, ◌<◌, None};
 ghost use Rattle.nr_idmap.specs.Keepers.{id_rows};
 
 use crate::by_id::opened::{
-    Asking, Serving, Without, end_client, end_flow, ends, fills, gets, opened, take_by, takes,
+    Asking, Serving, Without, end_client, end_flow, fills, misses, opened, take_by, takes,
 };
+use crate::by_id::scenes::{Scene, plays};
 use crate::same::is_same;
 use nr_idmap::Evict;
 use nr_idserve::{GotId, IdClient, IdDataflow, NoVictims, Taken};
@@ -29,7 +30,11 @@ fn gets_now<R: Abort + Wait + Clock>(
 }
 
 // A get that sleeps is too late, one that needn't isn't. The claim stays, and is answered later.
-fn is_late<R: Abort + Wait + Clock>(rt: &R, client: &mut IdClient<'_>, flow: &mut IdDataflow<'_>)
+pub(crate) fn is_late<R: Abort + Wait + Clock>(
+    rt: &R,
+    client: &mut IdClient<'_>,
+    flow: &mut IdDataflow<'_>,
+)
     requires { 0 < id_rows flow.old.map }
 {
     is_same(rt, &gets_now(rt, client, 1, 2), &None);
@@ -41,10 +46,7 @@ fn is_late<R: Abort + Wait + Clock>(rt: &R, client: &mut IdClient<'_>, flow: &mu
 
 #[test]
 fn a_get_is_too_late(rt: HostRuntime) {
-    let (service, tokens) = opened(&rt, 1, 4);
-    let (mut client, mut flow) = tokens.opens(&service);
-    is_late(&rt, &mut client, &mut flow);
-    ends(&rt, client, flow, None);
+    plays(&rt, Scene::IsLate, 1, 4, None);
 }
 
 // Wants id 9, which nobody brings, by two tries. It sleeps between them.
@@ -85,7 +87,7 @@ fn fills_group<'a, R: Abort + Wait>(
     let mut client = asking.opens();
     let mut flow = serving.opens();
     for id in 1..9 {
-        gets(rt, &mut client, id, GotId::GaveUp);
+        misses(rt, &mut client, id);
         let upquery = takes(rt, &mut flow);
         fills(rt, &mut flow, upquery, 5);
     }

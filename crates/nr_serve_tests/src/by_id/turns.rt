@@ -2,11 +2,12 @@
 ghost use Rattle.std.specs.Prelude.{◌≤◌, length};
 ghost use Rattle.nr_idmap.specs.Tags.{AreIdRows};
 
-use crate::by_id::opened::{ends, finds, gets, opened};
+use crate::by_id::opened::{finds_one, misses};
+use crate::by_id::scenes::{Scene, plays};
 use crate::same::is_same;
-use nr_idserve::{GotId, IdClient, IdDataflow, IdSource, IdTurn, NoVictims};
+use nr_idserve::{IdClient, IdDataflow, IdSource, IdTurn, NoVictims};
 use nr_model::{Row, RowSet};
-use nr_serve::SourceFault;
+use nr_serve::{Lobby, SourceFault};
 use std::process::Abort;
 use std::sync::Wait;
 
@@ -49,10 +50,10 @@ fn asks_once<R: Abort + Wait>(rt: &R, client: &mut IdClient<'_>, flow: &mut IdDa
         asked: 0,
     };
     turns(rt, flow, &mut source, IdTurn::Idle);
-    gets(rt, client, 3, GotId::GaveUp);
+    misses(rt, client, 3);
     turns(rt, flow, &mut source, IdTurn::Filled(3));
     turns(rt, flow, &mut source, IdTurn::Idle);
-    finds(rt, client, 3, &[Row { a: 1, b: 3 }]);
+    finds_one(rt, client, 3, 3);
     is_same(rt, &source.asked, &1);
 }
 
@@ -62,13 +63,13 @@ fn asks_anew<R: Abort + Wait>(rt: &R, client: &mut IdClient<'_>, flow: &mut IdDa
         has_rows: false,
         asked: 0,
     };
-    gets(rt, client, 4, GotId::GaveUp);
+    misses(rt, client, 4);
     turns(rt, flow, &mut source, IdTurn::Failed(4));
     is_same(rt, &client.failures_for(4), &1);
     source.has_rows = true;
-    gets(rt, client, 4, GotId::GaveUp);
+    misses(rt, client, 4);
     turns(rt, flow, &mut source, IdTurn::Filled(4));
-    finds(rt, client, 4, &[Row { a: 1, b: 4 }]);
+    finds_one(rt, client, 4, 4);
 }
 
 // Nobody sleeps in a closed lobby, so one thread can make an idle turn.
@@ -78,19 +79,25 @@ fn turns_or_sleeps<R: Abort + Wait>(rt: &R, client: &mut IdClient<'_>, flow: &mu
         asked: 0,
     };
     let idle = flow.turn_or_sleep(rt, &mut NoVictims, &mut source);
-    gets(rt, client, 5, GotId::GaveUp);
+    misses(rt, client, 5);
     let turned = flow.turn_or_sleep(rt, &mut NoVictims, &mut source);
     is_same(rt, &(idle, turned), &(IdTurn::Idle, IdTurn::Filled(5)));
-    finds(rt, client, 5, &[Row { a: 1, b: 5 }]);
+    finds_one(rt, client, 5, 5);
+}
+
+pub(crate) fn asks_its_source<R: Abort + Wait>(
+    rt: &R,
+    lobby: &Lobby,
+    client: &mut IdClient<'_>,
+    flow: &mut IdDataflow<'_>,
+) {
+    asks_once(rt, client, flow);
+    asks_anew(rt, client, flow);
+    lobby.close(rt);
+    turns_or_sleeps(rt, client, flow);
 }
 
 #[test]
 fn a_turn_asks_its_source(rt: HostRuntime) {
-    let (service, tokens) = opened(&rt, 1, 4);
-    let (mut client, mut flow) = tokens.opens(&service);
-    asks_once(&rt, &mut client, &mut flow);
-    asks_anew(&rt, &mut client, &mut flow);
-    service.lobby().close(&rt);
-    turns_or_sleeps(&rt, &mut client, &mut flow);
-    ends(&rt, client, flow, None);
+    plays(&rt, Scene::AsksSource, 1, 4, None);
 }

@@ -1,4 +1,4 @@
-use Rattle.nr_serve_tests.proofs.queues.large_queue_of.Given as goal
+use Rattle.nr_serve_tests.proofs.queues.large_queue.Given as goal
 
 abbrev pub ghost-open_large : goal.ghost-open_large
 ghost-open_large a = 20
