@@ -124,9 +124,9 @@ impl Choice {
     }
 
     /// The way of one whose value is to go, which isn't the newcomer's unless no other has a value. Takes up to 3
-    /// steps of the directory for each entrant or resident that it comes to, and none for other ways. It comes to one entrant and to nine residents at most, but for those whose values were
-    /// taken since by other calls, to nine more where a winner lacks weight, and to nine times as many where no
-    /// entrant is to go.
+    /// steps of the directory for each entrant or resident that it comes to, and none for other ways. It comes to one
+    /// entrant and to nine residents at most, but for those whose values were taken since by other calls, to nine
+    /// more where a winner lacks weight, and to nine times as many where no entrant is to go.
     pub fn choose(
         &mut self,
         map: &IdMap,
