@@ -8,6 +8,7 @@ pub mod Opening
 pub mod Seat
 pub mod Choices
 pub mod Sums
+mod Noted
 mod Passed
 pub mod Histories
 pub mod KeyWords

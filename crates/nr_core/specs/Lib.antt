@@ -2,6 +2,7 @@ pub mod Sums
 pub mod Slots
 pub mod Sizes
 pub mod States
+pub mod SlotNotes
 pub mod SlotLists
 pub mod Refusals
 pub mod Operations

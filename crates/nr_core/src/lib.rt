@@ -55,6 +55,7 @@ mod reached;
 mod roles;
 mod shape;
 mod slot_lists;
+mod slot_notes;
 mod words;
 mod words_read;
 

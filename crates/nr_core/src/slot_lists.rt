@@ -3,11 +3,13 @@
 ghost use Rattle.std.specs.Prelude.{◌≡◌, ◌<◌, ◌≤◌, ◌++◌, [], ◌∷◌, false, length, remove, replicate, slice_index, slice_index_or, slice_set, IfOk};
 ghost use Rattle.nr_core.specs.States.{no_retired};
 ghost use Rattle.nr_core.specs.Writer.{unnamed};
-ghost use Rattle.nr_core.specs.SlotLists.{AreReaped, CountsFewer, CountsMore, TakesFresh, TakesOldest, all_taken};
+ghost use Rattle.nr_core.specs.SlotLists.{AreReaped, TakesFresh, TakesOldest, all_taken};
+ghost use Rattle.nr_core.specs.SlotNotes.{reaped_of};
 
 use crate::calls::NoSlot;
 use crate::places::Retired;
 use crate::shape::Shape;
+use crate::slot_notes::{SlotNote, one_fewer, one_more};
 use nr_words::parts;
 use std::alloc::{AllocError, Global};
 use std::collections::VecDeque;
@@ -24,23 +26,23 @@ use std::marker::Model;
 pub struct SlotLists {
     slots: u32,
     fresh: u32,
+    passed: usize,
     retired: VecDeque<Retired>,
     numbers: Vec<u64>,
-    reaped: Vec<bool>,
-    retirements: Vec<u8>,
-    passed: usize,
+    notes: Vec<SlotNote>,
 }
 
 impl Model for SlotLists {
     ghost use Rattle.std.specs.Prelude.{◌≡◌, ◌≤◌, length};
     ghost use Rattle.std.specs.VecDeque.{deque_capacity};
     ghost use Rattle.nr_core.specs.SlotLists.{AreReaped, CountsRetirements, SlotLists as Slots};
+    ghost use Rattle.nr_core.specs.SlotNotes.{reaped_of, retirements_of};
 
     ghost Value = { Slots };
 
-    ghost view = { λ lists. record { slots = lists.slots; fresh = lists.fresh; retired = lists.retired.items; numbers = lists.numbers.items; reaped = lists.reaped.items } };
+    ghost view = { λ lists. record { slots = lists.slots; fresh = lists.fresh; retired = lists.retired.items; numbers = lists.numbers.items; reaped = reaped_of lists.notes.items } };
 
-    ghost invariant = { λ lists. (lists.slots ≤ deque_capacity lists.retired) × (length lists.reaped.items ≡ lists.slots) × (lists.fresh ≤ lists.slots) × CountsRetirements lists.slots lists.retired.items lists.retirements.items × AreReaped lists.passed lists.retired.items lists.reaped.items };
+    ghost invariant = { λ lists. (lists.slots ≤ deque_capacity lists.retired) × (length lists.notes.items ≡ lists.slots) × (lists.fresh ≤ lists.slots) × CountsRetirements lists.slots lists.retired.items (retirements_of lists.notes.items) × AreReaped lists.passed lists.retired.items (reaped_of lists.notes.items) };
 }
 
 impl SlotLists {
@@ -49,20 +51,19 @@ impl SlotLists {
         ensures { IfOk result (λ lists. lists ≡ record { slots = shape.now.slots; fresh = 0; retired = []; numbers = replicate shape.now.keys shape.now.first_number; reaped = replicate shape.now.slots false }) }
     {
         let retired = VecDeque::with_capacity(alloc, shape.slots as usize)?;
-        let mut numbers = Vec::with_capacity(alloc, shape.keys as usize)?;
-        numbers.resize(shape.keys as usize, shape.first_number)?;
-        let mut reaped = Vec::with_capacity(alloc, shape.slots as usize)?;
-        reaped.resize(shape.slots as usize, false)?;
-        let mut retirements = Vec::with_capacity(alloc, shape.slots as usize)?;
-        retirements.resize(shape.slots as usize, 0)?;
+        let numbers = vec![in alloc; shape.first_number; shape.keys as usize]?;
+        let note = SlotNote {
+            reaped: false,
+            retirements: 0,
+        };
+        let notes = vec![in alloc; note; shape.slots as usize]?;
         Ok(SlotLists {
             slots: shape.slots,
             fresh: 0,
+            passed: 0,
             retired,
             numbers,
-            reaped,
-            retirements,
-            passed: 0,
+            notes,
         })
     }
 
@@ -108,7 +109,7 @@ impl SlotLists {
     {
         let entry = self.retired[place];
         self.retired.remove(place);
-        one_fewer(&mut self.retirements, entry.slot);
+        one_fewer(&mut self.notes, entry.slot);
         if place < self.passed {
             self.passed -= 1;
         }
@@ -120,7 +121,7 @@ impl SlotLists {
         ensures { TakesOldest self.old self.new result }
     {
         let oldest = self.retired.pop_front()?;
-        one_fewer(&mut self.retirements, oldest.slot);
+        one_fewer(&mut self.notes, oldest.slot);
         self.passed = self.passed.saturating_sub(1);
         Some(oldest)
     }
@@ -130,7 +131,7 @@ impl SlotLists {
         requires { length self.old.retired < self.old.slots }
         ensures { self.new ≡ record self.old { retired = oldest ∷ self.old.retired } }
     {
-        one_more(&mut self.retirements, oldest.slot);
+        one_more(&mut self.notes, oldest.slot);
         self.retired.push_front_reserved(oldest);
         self.passed = 0;
     }
@@ -142,7 +143,7 @@ impl SlotLists {
     {
         let old = parts(word);
         if old.filled {
-            one_more(&mut self.retirements, old.slot);
+            one_more(&mut self.notes, old.slot);
             self.retired.push_back_reserved(Retired {
                 slot: old.slot,
                 arrivals: old.arrivals,
@@ -171,7 +172,7 @@ impl SlotLists {
         requires { slot < self.now.slots }
         ensures { result ≡ slice_index_or self.now.reaped slot false }
     {
-        self.reaped[slot as usize]
+        self.notes[slot as usize].reaped
     }
 
     /// Notes whether the set in the slot was given out.
@@ -179,15 +180,19 @@ impl SlotLists {
         requires { slot < self.old.slots }
         ensures { self.new ≡ record self.old { reaped = slice_set self.old.reaped slot reaped } }
     {
-        self.reaped[slot as usize] = reaped;
-        let known = if reaped || self.retirements[slot as usize] == 0 {
+        let note = SlotNote {
+            reaped,
+            ..self.notes[slot as usize]
+        };
+        self.notes[slot as usize] = note;
+        let known = if reaped || note.retirements == 0 {
             self.passed
         } else {
             0
         };
         // Two, so that those are caught up with that a reader held meanwhile.
-        let next = pass_one(&self.retired, &self.reaped, known);
-        self.passed = pass_one(&self.retired, &self.reaped, next);
+        let next = pass_one(&self.retired, &self.notes, known);
+        self.passed = pass_one(&self.retired, &self.notes, next);
     }
 
     /// How many of the oldest retired slots were reaped, at least.
@@ -212,36 +217,14 @@ impl SlotLists {
     }
 }
 
-// Counts that a slot is retired once more: to two, which tells nothing from then on.
-fn one_more(counts: &mut Vec<u8>, slot: u32)
-    ensures length { length counts.new.items ≡ length counts.old.items }
-    ensures counts { CountsMore slot counts.old.items counts.new.items }
-{
-    let place = slot as usize;
-    if place < counts.len() && counts[place] < 2 {
-        counts[place] += 1;
-    }
-}
-
-// Counts that it is retired once less.
-fn one_fewer(counts: &mut Vec<u8>, slot: u32)
-    ensures length { length counts.new.items ≡ length counts.old.items }
-    ensures counts { CountsFewer slot counts.old.items counts.new.items }
-{
-    let place = slot as usize;
-    if place < counts.len() && counts[place] == 1 {
-        counts[place] = 0;
-    }
-}
-
 // Of so many of the first retired slots it is known that they were reaped: of one more, if it was.
-fn pass_one(retired: &VecDeque<Retired>, reaped: &Vec<bool>, known: usize) -> usize
-    requires { AreReaped known retired.now.items reaped.now.items }
-    ensures { AreReaped result retired.now.items reaped.now.items }
+fn pass_one(retired: &VecDeque<Retired>, notes: &Vec<SlotNote>, known: usize) -> usize
+    requires { AreReaped known retired.now.items (reaped_of notes.now.items) }
+    ensures { AreReaped result retired.now.items (reaped_of notes.now.items) }
 {
     if known < retired.len() {
         let place = retired[known].slot as usize;
-        if place < reaped.len() && reaped[place] {
+        if place < notes.len() && notes[place].reaped {
             return known + 1;
         }
     }
