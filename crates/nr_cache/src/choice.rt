@@ -43,12 +43,12 @@ pub(crate) enum Need {
 pub(crate) struct Choice {
     /// The way that comes next in the turn of the residents.
     turn: u32,
+    entrants: Entrants,
+    doubt: Doubt,
     /// The last who won, if those who went for it are lighter.
     winner: Option<Winner>,
     standings: Standings,
-    entrants: Entrants,
     leavers: Leavers,
-    doubt: Doubt,
 }
 
 /// Who may go: an id with its way and its count.
@@ -72,11 +72,11 @@ impl Choice {
         let most = Mood::Moving.room(shape.capacity).saturating_add(2);
         Ok(Choice {
             turn: 0,
+            entrants: Entrants::open(alloc, most)?,
+            doubt: Doubt::new(shape.capacity, shape.weight),
             winner: None,
             standings: Standings::open(alloc, shape.groups.saturating_mul(8))?,
-            entrants: Entrants::open(alloc, most)?,
             leavers: Leavers::open(alloc, shape.groups.saturating_mul(2))?,
-            doubt: Doubt::new(shape.capacity, shape.weight),
         })
     }
 

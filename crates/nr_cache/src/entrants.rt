@@ -13,22 +13,22 @@ const NOBODY: Entrant = Entrant { way: 0, weight: 0 };
 /// A ring with a place for each that may wait. A way that got another id meanwhile stands in it twice.
 #[derive(Drop)]
 pub(crate) struct Entrants {
-    ring: Vec<Entrant>,
     oldest: usize,
     next: usize,
     count: u32,
     weight: u64,
+    ring: Vec<Entrant>,
 }
 
 impl Entrants {
     pub fn open(alloc: Global, most: u32) -> Result<Entrants, AllocError> {
         let ring = vec![in alloc; NOBODY; most as usize]?;
         Ok(Entrants {
-            ring,
             oldest: 0,
             next: 0,
             count: 0,
             weight: 0,
+            ring,
         })
     }
 

@@ -30,9 +30,9 @@ pub struct Flight {
 /// room for so many and take no memory.
 #[derive(Drop)]
 pub(crate) struct Flights {
-    under_way: Vec<Flight>,
-    begun: u64,
     changing: Vec<u64>,
+    begun: u64,
+    under_way: Vec<Flight>,
 }
 
 impl Model for Flights {
@@ -54,9 +54,9 @@ impl Flights {
         ensures { IfOk result (λ made. made ≡ none_under_way flights changes) }
     {
         Ok(Flights {
-            under_way: Vec::with_capacity(alloc, flights)?,
-            begun: 0,
             changing: Vec::with_capacity(alloc, changes)?,
+            begun: 0,
+            under_way: Vec::with_capacity(alloc, flights)?,
         })
     }
 

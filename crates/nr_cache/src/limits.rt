@@ -20,11 +20,11 @@ const STRIDE: u32 = 8;
 /// How many values there may be, what they weigh, and whose goes next.
 #[derive(Drop)]
 pub(crate) struct Limit {
-    pub capacity: u32,
     /// The way at which the next look for a stale value begins.
     pub hand: u32,
-    pub weights: Weights,
+    pub capacity: u32,
     pub choice: Choice,
+    pub weights: Weights,
     /// The rows that a look found last.
     pub found: SortedRows,
 }

@@ -37,6 +37,8 @@ pub enum Landed {
 /// What a cache decides, for one thread at a time. It can't be dropped: it is closed, and then tells which
 /// flights are under way yet.
 pub struct Store {
+    // In this order, here and below, so that what each landing writes lies together: most often another processor wrote
+    // it last.
     pub(crate) writer: IdWriter,
     /// Claims the groups of ids that get a value.
     pub(crate) asker: IdReader,
