@@ -21,9 +21,10 @@ use std::marker::Model;
 pub struct IdHand {
     pub(crate) hand: Hand,
     pub(crate) ids: nr_ids::Reader,
+    // Before the set, so that what a find writes lies together.
+    pub(crate) held: Option<Holding>,
     // The set that is held, with its tag.
     pub(crate) sorted: SortedRows,
-    pub(crate) held: Option<Holding>,
 }
 
 // The id whose set is held, and its way. The number 0 tells that the set is held for no id, by a hand that
