@@ -27,6 +27,7 @@ impl Desk {
 
     /// Where the entry of an id lies, if it is the one that is looked for. It stays there while the desk holds it.
     /// Without one the desk holds nothing.
+    #[inline]
     pub fn find_if<K, V>(&mut self, at: At, is_it: impl FnOnce(&Entry<K, V>) -> bool) -> Option<Place<K, V>> {
         let last = std::mem::replace(&mut self.last, at.part);
         if last != at.part {

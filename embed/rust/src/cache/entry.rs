@@ -5,11 +5,12 @@ use super::seats::Seat;
 use std::sync::atomic::{AtomicBool, AtomicU64};
 use std::thread::ThreadId;
 
-/// A value with its key, in a box of its own that the store owns.
+/// A value with its key, in a box of its own that the store owns. The two stand first, since a hit reads no more: so mostly it
+/// reads one line of memory.
 pub(super) struct Entry<K, V> {
-    pub id: u64,
     pub key: K,
     pub value: V,
+    pub id: u64,
     pub life: Life,
     /// How much it weighs, in a cache where that counts.
     pub weight: u32,
@@ -29,9 +30,9 @@ impl<K, V> Entry<K, V> {
     /// One whose value comes by that thread.
     pub fn of(maker: Option<ThreadId>, id: u64, key: K, value: V, life: Life) -> Entry<K, V> {
         Entry {
-            id,
             key,
             value,
+            id,
             life,
             weight: 1,
             maker,

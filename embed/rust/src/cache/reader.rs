@@ -182,6 +182,7 @@ impl<K: Hash + Eq, V, S: BuildHasher> CacheReader<K, V, S> {
         false
     }
 
+    #[inline]
     fn obtain<Q, E>(
         &mut self,
         key: &Q,
@@ -196,6 +197,23 @@ impl<K: Hash + Eq, V, S: BuildHasher> CacheReader<K, V, S> {
         if let Some(place) = self.look(at, key) {
             return Ok(self.borrowed(at, place));
         }
+        self.obtain_missed(at, key, timeout, load)
+    }
+
+    /// The same of a key that was missed. Apart from the hit, which so needs few registers and little of the stack.
+    #[cold]
+    #[inline(never)]
+    fn obtain_missed<Q, E>(
+        &mut self,
+        at: At,
+        key: &Q,
+        timeout: Option<Duration>,
+        load: impl FnOnce() -> Result<V, E>,
+    ) -> Result<CacheRef<'_, K, V>, LoadError<E>>
+    where
+        K: Borrow<Q>,
+        Q: Hash + Eq + ToOwned<Owned = K> + ?Sized,
+    {
         // A limit beyond the end of time is none.
         let until = timeout.and_then(|timeout| now().checked_add(timeout));
         let own = loop {
@@ -258,6 +276,7 @@ impl<K: Hash + Eq, V, S: BuildHasher> CacheReader<K, V, S> {
     }
 
     /// Where the entry of a key lies, which stays there while the reader holds it. Without one it holds nothing.
+    #[inline]
     fn find<Q: Eq + ?Sized>(&mut self, at: At, key: &Q) -> Option<Place<K, V>>
     where
         K: Borrow<Q>,
@@ -267,6 +286,7 @@ impl<K: Hash + Eq, V, S: BuildHasher> CacheReader<K, V, S> {
     }
 
     /// The same for a get's first look, which is a hit or a miss.
+    #[inline]
     fn look<Q: Eq + ?Sized>(&mut self, at: At, key: &Q) -> Option<Place<K, V>>
     where
         K: Borrow<Q>,
@@ -292,6 +312,7 @@ impl<K: Hash + Eq, V, S: BuildHasher> CacheReader<K, V, S> {
     }
 
     /// What the last find has found.
+    #[inline]
     fn borrowed(&mut self, at: At, place: Place<K, V>) -> CacheRef<'_, K, V> {
         CacheRef(Borrowed::Held(place, self.desk.hold(at)))
     }
