@@ -92,10 +92,12 @@ class File:
         """The names of its functions; or of those alone that other crates may call, the public ones and each trait's."""
         return {it.name.rpartition(":")[2] for it in self.functions if not beyond or self.is_public(it)}
 
-    def is_public(self, function):
+    def is_of_trait(self, function):
         around = function.owner
-        is_of_trait = around is not None and (self.words[around] == "trait" or "for" in self.head_of(around))
-        return is_of_trait or self.words[function.start - 1] == "pub"
+        return around is not None and (self.words[around] == "trait" or "for" in self.head_of(around))
+
+    def is_public(self, function):
+        return self.is_of_trait(function) or self.words[function.start - 1] == "pub"
 
     def is_within(self, i, *kinds):
         return any(kind in kinds and start < i < end for kind, start, end in self.spans)

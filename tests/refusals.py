@@ -7,7 +7,7 @@ refused where a goal of its own function is open: the prover tried it, and found
 another one's goal shows it, a line `refused in: NAME` of the edit, which rt passes over, names that one, and the wrong body
 has a check for itself. What isn't refused so is tried on the whole crate. A check begins with what rt check left in the
 crate's library, and so proves no function again that a wrong body calls. A library of rt ci has statements alone: over it,
-and where there is none, the first check of a crate proves these functions, and keeps them for the next ones.
+and where there is none, these functions are proved first, and kept for all checks of the crate.
 
 Where the text of the proof alone doesn't fit the wrong body, by a type, by a name that is gone, or by a path that `rw` doesn't
 find, nothing is known of its goal: so that is no refusal here, as it is one of rt. Such an edit brings its proof's text with
@@ -22,15 +22,13 @@ import re
 import shutil
 import subprocess
 import tempfile
-import threading
 import time
 from typing import NamedTuple
 
 import kit
 from functions import files_of
 
-WHOLE = 100  # wrong bodies, at most, of a crate that is tried as one part: what they call is proved once
-PART = 54  # wrong bodies, at most, of another's
+PART = 40  # wrong bodies, at most, that one prover tries
 LONG = 15  # seconds that a wrong body takes which is told
 HEAD = re.compile(r"[^#/]*\bfn \w+")
 TOLD = re.compile(r"(?:note: )?(?:\./)?(\S+?):(\d+):\d+: (.*)")
@@ -137,10 +135,10 @@ def changed(folder, texts):
     return found, is_within
 
 
-def name_in(path, function):
+def name_in(path, name):
     """A function's name as a check takes it: with its type, or else with its module."""
     module = pathlib.Path(path).stem
-    return function.name if "::" in function.name or module in ("lib", "main") else f"{module}::{function.name}"
+    return name if "::" in name or module in ("lib", "main") else f"{module}::{name}"
 
 
 def read(rt, crate, edit, number):
@@ -152,7 +150,7 @@ def read(rt, crate, edit, number):
     if named:
         return Body(edit, texts, tuple(named))
     found, is_within = changed(crate.folder, texts) or (set(), False)
-    names = tuple(name_in(path, one) for path, one in found)
+    names = tuple(name_in(path, one.name) for path, one in found)
     if len(found) != 1:
         return Body(edit, texts, names) if found else None
     path, one = found.pop()
@@ -238,12 +236,19 @@ def words_of(crate, only):
     return words
 
 
-def try_group(rt, crate, group, kept):
-    """How each wrong body is refused that is, all being tried by one check, over what is kept."""
+@contextlib.contextmanager
+def copied(rt, crate):
+    """A copy of the crate, by whose name tests/timed knows its checks."""
     with tempfile.TemporaryDirectory(prefix="rt-edit-") as room:
         for part in rt.rtlib.PARTS:
             if os.path.isdir(f"{crate.folder}/{part}"):
                 shutil.copytree(f"{crate.folder}/{part}", f"{room}/{part}")
+        yield room
+
+
+def try_group(rt, crate, group, kept):
+    """How each wrong body is refused that is, all being tried by one check, over what is kept."""
+    with copied(rt, crate) as room:
         tried, later = put(rt, room, group)
         only = [word for body in tried for name in body.functions for word in ("--only", name)]
         words = [rt.rtlib.RATTLE, "check", *words_of(crate, only), "--incremental", kept, "--progress"]
@@ -306,51 +311,73 @@ def unpack(rt, crate, kept):
     return has_proofs
 
 
-class Called:
-    """What the wrong bodies of a crate in parts call. The first check proves it, and the others wait for that."""
+def may_call(file, function, call, owner):
+    """Whether a function that calls one of that name may call that of a type, or a free one, as far as words tell."""
+    before, own = file.words[call.at - 1], function.name.rpartition("::")[0]
+    if before == ".":
+        is_own = file.words[call.at - 2] == "self" and file.words[call.at - 3] != "."
+        return owner == own if is_own else owner not in ("", own)
+    named = file.words[call.at - 2] if before == "::" else ""
+    return owner == (own if named == "Self" else named if named[:1].isupper() else "")
 
-    def __init__(self):
-        self.lock, self.place = threading.Lock(), None
 
-    @contextlib.contextmanager
-    def in_check(self, kept):
-        """In this a check is made over what is kept, which the crate's other parts have too."""
-        with self.lock:
-            is_first = self.place is None
-            if is_first:
-                yield
-                self.place = tempfile.TemporaryDirectory(prefix="rt-called-")
-                shutil.copytree(kept, self.place.name, dirs_exist_ok=True)
-            elif not os.listdir(kept):
-                shutil.copytree(self.place.name, kept, dirs_exist_ok=True)
-        if not is_first:
-            yield
+def called(rt, crate, edits):
+    """The functions of the crate that those with wrong bodies call, as a check takes their names."""
+    sources = pathlib.Path(crate.folder, "src").rglob("*.rt")
+    files = files_of({str(it.relative_to(crate.folder)): it.read_text() for it in sources})
+    named = collections.defaultdict(set)
+    for path, file in files.items():
+        for one in file.functions:
+            owner, _, name = one.name.rpartition("::")
+            if not file.is_of_trait(one):
+                named[name].add((owner, name_in(path, one.name)))
+    texts = [texts for edit in edits if (texts := rt.read_edit(edit, crate.folder)[0])]
+    wrong = {(path, it.name) for text in texts for path, it in (changed(crate.folder, text) or [()])[0]}
+    return {
+        name
+        for path, file in files.items()
+        for one in file.functions
+        if (path, one.name) in wrong
+        for call in file.calls(one.body, one.end)
+        for owner, name in named[call.name]
+        if may_call(file, one, call, owner)
+    }
+
+
+def prove_called(rt, crate, edits, kept):
+    """Proves what wrong bodies call, for all checks that begin with what is kept. Where it can't, each does so for itself."""
+    only = [word for name in sorted(called(rt, crate, edits)) for word in ("--only", name)]
+    words = [rt.rtlib.RATTLE, "check", *words_of(crate, only), "--incremental", kept]
+    silent = dict.fromkeys(("stdin", "stdout", "stderr"), subprocess.DEVNULL)
+    with copied(rt, crate) as room:
+        subprocess.run([*rt.rtlib.guarded(), *words], cwd=room, **silent)
 
 
 class Part(NamedTuple):
-    """Some of a crate's wrong bodies, and what it shares with the other parts where there are any."""
+    """Some of a crate's wrong bodies, and the folder of what is proved of what they call."""
 
     crate: object
     edits: list
-    called: Called | None
+    known: tempfile.TemporaryDirectory
 
 
-def parts(crate, edits):
-    """The wrong bodies of a crate that has many, in parts, which are tried side by side: else that crate would be waited for.
-    One part takes every so many, since those that stand beside each other often have one function."""
-    count = 1 if len(edits) <= WHOLE else -(-len(edits) // PART)
-    called = Called() if count > 1 else None
-    return [Part(crate, edits[at::count], called) for at in range(count)]
+def parts(rt, crate, edits):
+    """The wrong bodies of a crate in parts, which are tried side by side: else a crate that has many would be waited for. One
+    part takes every so many, since those that stand beside each other often have one function."""
+    count = -(-len(edits) // PART)
+    known = tempfile.TemporaryDirectory(prefix="rt-known-")
+    if not unpack(rt, crate, known.name) and count > 1:
+        prove_called(rt, crate, edits, known.name)
+    return [Part(crate, edits[at::count], known) for at in range(count)]
 
 
 def try_part(rt, part):
     with tempfile.TemporaryDirectory(prefix="rt-edits-") as kept:
-        is_alone = unpack(rt, part.crate, kept) or not part.called
-        in_check = contextlib.nullcontext if is_alone else lambda: part.called.in_check(kept)
-        return try_all(rt, part.crate, part.edits, kept, in_check)
+        shutil.copytree(part.known.name, kept, dirs_exist_ok=True)
+        return try_all(rt, part.crate, part.edits, kept)
 
 
-def try_all(rt, crate, edits, kept, in_check):
+def try_all(rt, crate, edits, kept):
     """Tries wrong bodies of a crate in turn, says what comes of each, and counts them: those that are refused, those that
     aren't, those of which only a proof's text is, and those that had a check of the whole crate."""
     found, left = {}, [it for number, edit in enumerate(edits) if (it := read(rt, crate, edit, number))]
@@ -366,9 +393,7 @@ def try_all(rt, crate, edits, kept, in_check):
     # after it. No function calls a copy.
     while left and is_waiting:
         for group in groups(left):
-            with in_check():
-                refused = try_group(rt, crate, group, kept)
-            say(refused)
+            say(try_group(rt, crate, group, kept))
         is_waiting = any(it.edit in found and not it.copy for it in left)
         left = [it for it in left if it.edit not in found]
     alone = [edit for edit in edits if edit not in found]
