@@ -177,8 +177,9 @@ typedef struct nr_delta {
    65,535 readers. A key may have `rows` rows, 1 to 255. The slots' counts of departures begin at `first_count`, and the
    keys' ticket numbers at `first_number`, at most 4,194,303. Set both to 0, except to test the end of a count.
    With keys + readers + 1 slots no fill, update or replacement answers NR_NO_SLOT or NR_ALL_FILLED.
-   The map's words take 8 bytes for each key, 16 * rows + 16 for each slot and 64 for each reader, and as much again
-   during the opening. The writer's lists take another 8 bytes for each key, 19 for each slot and 16 for each reader. */
+   The map's words take 8 bytes for each key, 16 * rows + 16 for each slot, 128 for each reader and 2,048 more, and as
+   much again during the opening. The writer's lists take another 8 bytes for each key, 19 for each slot and 16 for each
+   reader. */
 typedef struct nr_shape {
   uint32_t keys;
   uint32_t slots;
@@ -228,7 +229,7 @@ typedef struct nr_poster {
    readers. An id may have `rows` rows, 1 to 254. `key` decides which groups an id has, so draw it at random where
    strangers choose ids. Ticket numbers begin at `first_number`, which you set to 0. With 8 * groups + readers + 2 slots
    no fill or replacement answers NR_NO_SLOT or NR_ALL_FILLED. A group takes 536 bytes, a slot 16 * rows + 51, and a
-   reader 10,640. */
+   reader 10,704. */
 typedef struct nr_id_shape {
   uint32_t groups;
   uint32_t slots;

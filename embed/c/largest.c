@@ -52,7 +52,7 @@ static void try_map(void) {
   nr_writer writer = {0};
   size_t before = asked;
   want(nr_open(&shape, &writer) == NR_DONE, "the largest map");
-  took(before, (size_t)KEYS * (2 * 8 + 8) + (size_t)KEYS * (2 * 32 + 19) + (size_t)TOKENS * 2 * 64, 16, "the largest map");
+  took(before, (size_t)KEYS * (2 * 8 + 8) + (size_t)KEYS * (2 * 32 + 19) + (size_t)TOKENS * 2 * 128, 16, "the largest map");
   before = asked;
   for (int i = 0; i < TOKENS; i++) want(nr_open_reader(&writer, &readers[i]) == NR_DONE, "a reader");
   took(before, TOKENS * sizeof(void *), 512, "its readers");

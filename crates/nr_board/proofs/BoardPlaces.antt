@@ -5,19 +5,19 @@ use Rattle.nr_core.proofs.WordPlaces.{content_inside, departures_inside}
 use Rattle.nr_core.specs.Sizes.{IsShape}
 use Rattle.nr_core.specs.Slots.{content, departures, layout, slot_room}
 use Rattle.nr_core.specs.declared.shape.Shape.{Shape}
-use Rattle.nr_board.specs.Announcing.{says_at}
+use Rattle.nr_board.specs.Announcing.{own_words, says_at}
 use Rattle.nr_board.specs.Callers.{Table}
 
 -- what the board keeps of its table, whose rule goes by that shape and which has that many words
 pub record Stands (board : Table) (key : Shape) (words : ℕ) : Type 0 where
   pub key_is : key ≡ board.shape
-  pub size : words ≡ total_of (layout board.shape) + 8 * board.announcers
+  pub size : words ≡ total_of (layout board.shape) + own_words board.announcers
   pub some_key : 0 < board.shape.keys
   pub few : board.shape.keys < 2 ^ 32
   pub fits : IsShape board.shape
 
 pub stands : {shown board : Table} {key : Shape} {words : ℕ} → shown ≡ board
-    → (key ≡ shown.shape) × (words ≡ total_of (layout shown.shape) + 8 * shown.announcers)
+    → (key ≡ shown.shape) × (words ≡ total_of (layout shown.shape) + own_words shown.announcers)
     × (0 < shown.shape.keys) × (shown.shape.keys < 2 ^ 32) × IsShape shown.shape
     × (shown.announcers ≤ shown.shape.readers)
     → Stands board key words

@@ -18,7 +18,7 @@ use Rattle.nr_core.specs.declared.shape.Shape.{Shape}
 use Rattle.nr_core.proofs.ListPlaces.{no_places}
 use Rattle.nr_core.proofs.SeatMarks.{opens_marked}
 use Rattle.nr_core.specs.Marked.{Since}
-use Rattle.nr_board.specs.Announcing.{Hears, says_at}
+use Rattle.nr_board.specs.Announcing.{Hears, own_words, says_at}
 use Rattle.nr_board.specs.declared.board.Plan.{Plan}
 use Rattle.nr_board.specs.Rule.{Fits, Kept, marks_of, role_of}
 use Rattle.nr_board.specs.Views.{View, opener}
@@ -48,13 +48,13 @@ first_counts shape fits slot near =
     (((core_opens shape fits 0 (omega arith)).knows 0 (Writer (opening_desk shape)) refl).free slot (omega arith)
     near).1
 
--- behind the layout lie eight zeros for each reader that has a word
+-- behind the layout lie zeros, for the readers that have a word
 abbrev pub words_of : Plan → List ℕ
-words_of plan = words_at_opening plan.shape ++ replicate (8 * plan.announcers) 0
+words_of plan = words_at_opening plan.shape ++ replicate (own_words plan.announcers) 0
 
 pub words_stand : (plan : Plan) → IsShape plan.shape
-    → length (words_of plan) ≡ total_of (layout plan.shape) + 8 * plan.announcers
-words_stand plan fits = let room = 8 * plan.announcers in
+    → length (words_of plan) ≡ total_of (layout plan.shape) + own_words plan.announcers
+words_stand plan fits = let room = own_words plan.announcers in
     length-append (words_at_opening plan.shape) (replicate room 0)
     ∙ omega (arith, (core_opens plan.shape fits 0 (omega arith)).wide, length-replicate {A = ℕ} room 0)
 
@@ -62,7 +62,7 @@ pub opens_so : (plan : Plan) → IsShape plan.shape → plan.shape.first_count <
     → Kept plan.shape (opening (words_of plan) [] (opener plan))
 opens_so plan fits small = let shape = plan.shape in let view = opener plan in
     let wide = (core_opens shape fits 0 (omega arith)).wide in
-    let behind = replicate {A = ℕ} (8 * plan.announcers) 0 in
+    let behind = replicate {A = ℕ} (own_words plan.announcers) 0 in
     let long = words_stand plan fits in
     let within : (at : ℕ) → at < total_of (layout shape)
     → get_or (words_of plan) at 0 ≡ get_or (words_at_opening shape) at 0
@@ -72,7 +72,7 @@ opens_so plan fits small = let shape = plan.shape in let view = opener plan in
     ∙ first_counts shape fits slot near in
     let unsaid : (own : ℕ) → get_or (words_of plan) (says_at shape own) 0 ≡ 0
     = λ own. get_or-append_right (words_at_opening shape) behind (says_at shape own) 0 (omega (arith, wide))
-    ∙ zeros (8 * plan.announcers) (says_at shape own - length (words_at_opening shape)) in
+    ∙ zeros (own_words plan.announcers) (says_at shape own - length (words_at_opening shape)) in
     let at_most : (y : Bool) → cond y 1 0 + 0 ≤ 1
     = λ y. elim y as (λ z. cond z 1 0 + 0 ≤ 1) [ true ↦ omega arith | false ↦ omega arith ] in
     record {

@@ -17,9 +17,14 @@ use Rattle.nr_core.specs.declared.roles.Role.TheVariants.{Writer}
 use Rattle.nr_core.specs.Roles.{holds, is_by}
 use Rattle.nr_board.specs.Views.{View}
 
--- where a reader's word lies: eight words apart, so that it shares no cache line with another word in use
+-- where a reader's word lies. Processors load cache lines by pairs, and those that follow: so the word has a pair of
+-- its own, far behind what others read
 abbrev pub says_at : Shape → ℕ → ℕ
-says_at shape own = total_of (layout shape) + 8 * own + 7
+says_at shape own = total_of (layout shape) + 16 * own + 271
+
+-- how many words that takes of so many readers
+abbrev pub own_words : ℕ → ℕ
+own_words announcers = 16 * announcers + 256
 
 -- 1 where the token holds the slot by its word; how many tokens do
 abbrev pub lends : ℕ → View → ℕ
@@ -48,7 +53,7 @@ HasNoReader own views = (id : ℕ) (view : View) → get_elem? views id ≡ some
 
 -- what the readers' words say, of which that many have one
 pub record Announces (shape : Shape) (announcers : ℕ) (words : List ℕ) (views : List View) : Type 0 where
-  pub space : total_of (layout shape) + 8 * announcers ≤ length words
+  pub space : total_of (layout shape) + own_words announcers ≤ length words
   -- a reader's word is what its token says; who has none says nothing
   pub says : (id own : ℕ) (view : View) → get_elem? views id ≡ some view → is_by (suc own) view.role ≡ true
       → own < announcers → slice_index words (says_at shape own) ≡ view.says

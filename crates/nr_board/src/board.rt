@@ -26,7 +26,7 @@ ghost use Rattle.nr_core.specs.MarkSteps.{found_again};
 ghost use Rattle.nr_core.specs.Puts.{put_number};
 ghost use Rattle.nr_board.specs.Holds.{LooksAgain};
 ghost use Rattle.nr_board.specs.Seats.{AnnouncesAt, IdlesAt, HoldsAt};
-ghost use Rattle.nr_board.specs.Announcing.{says_at};
+ghost use Rattle.nr_board.specs.Announcing.{own_words, says_at};
 ghost use Rattle.nr_board.specs.Plays.{IsIdle};
 ghost use Rattle.nr_board.specs.WordPlays.{HasWord, HoldsByWord, IsOwn, let_go};
 ghost use Rattle.nr_board.specs.Notes.{IsCaller, IsNote, has_noted, note_of, retold, with_note};
@@ -72,7 +72,7 @@ pub struct Board {
 }
 
 impl Model for Board {
-    ghost use Rattle.std.specs.Prelude.{◌≡◌, ◌<◌, ◌≤◌, ◌^◌, ◌+◌, ◌*◌};
+    ghost use Rattle.std.specs.Prelude.{◌≡◌, ◌<◌, ◌≤◌, ◌^◌, ◌+◌};
     ghost use Rattle.nr_board.specs.Callers.{Table as MapTable};
 
     ghost Value = { MapTable };
@@ -80,10 +80,11 @@ impl Model for Board {
     ghost use Rattle.nr_words.specs.Places.{total_of};
     ghost use Rattle.nr_core.specs.Slots.{layout};
     ghost use Rattle.nr_core.specs.Sizes.{IsShape};
+    ghost use Rattle.nr_board.specs.Announcing.{own_words};
 
     ghost view = { λ board. record { id = board.table.shared.table_id; shape = board.plan.shape; announcers = board.plan.announcers } };
 
-    ghost invariant = { λ board. (board.table.shared.key.shape ≡ board.plan.shape) × (board.table.shared.table_id.words ≡ total_of (layout board.plan.shape) + 8 * board.plan.announcers) × (0 < board.plan.shape.keys) × (board.plan.shape.keys < 2 ^ 32) × IsShape board.plan.shape × (board.plan.announcers ≤ board.plan.shape.readers) };
+    ghost invariant = { λ board. (board.table.shared.key.shape ≡ board.plan.shape) × (board.table.shared.table_id.words ≡ total_of (layout board.plan.shape) + own_words board.plan.announcers) × (0 < board.plan.shape.keys) × (board.plan.shape.keys < 2 ^ 32) × IsShape board.plan.shape × (board.plan.announcers ≤ board.plan.shape.readers) };
 }
 
 /// What a reader says of itself: its index, which is its number less one, and where its own word
@@ -282,7 +283,7 @@ impl Board {
         ensures place { result ≡ says_at self.now.shape own }
         ensures inside { result < 2 ^ 64 }
     {
-        self.layout().total() + 8 * own as u64 + 7
+        self.layout().total() + 16 * own as u64 + 271
     }
 
     /// A reader reads a content word of the slot that it holds, whose first one stands at `begin`.
@@ -648,7 +649,7 @@ fn layout_of(shape: Shape) -> Layout
 // The words at opening. A first count is a word, which a shape as such doesn't say.
 fn words_from(alloc: Global, plan: Plan) -> Result<Vec<u64>, AllocError>
     requires sizes { IsShape plan.shape }
-    ensures words { IfOk result (λ words. words.items ≡ words_at_opening plan.shape ++ replicate (8 * plan.announcers) 0) }
+    ensures words { IfOk result (λ words. words.items ≡ words_at_opening plan.shape ++ replicate (own_words plan.announcers) 0) }
     ensures count { IfOk result (λ words. plan.shape.first_count < 2 ^ 64) }
 {
     let Shape {
@@ -656,7 +657,7 @@ fn words_from(alloc: Global, plan: Plan) -> Result<Vec<u64>, AllocError>
         first_number,
         ..
     } = plan.shape;
-    let behind = 8 * u64::from(plan.announcers);
+    let behind = 16 * u64::from(plan.announcers) + 256;
     opening_words(
         alloc,
         layout_of(plan.shape),
