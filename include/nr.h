@@ -228,8 +228,8 @@ typedef struct nr_poster {
 /* The sizes of a map over ids: 1 to 536,870,911 groups of eight ways, 1 to 4,194,303 slots and 1 to 65,534
    readers. An id may have `rows` rows, 1 to 254. `key` decides which groups an id has, so draw it at random where
    strangers choose ids. Ticket numbers begin at `first_number`, which you set to 0. With 8 * groups + readers + 2 slots
-   no fill or replacement answers NR_NO_SLOT or NR_ALL_FILLED. A group takes 536 bytes, a slot 16 * rows + 51, and a
-   reader 10,704. */
+   no fill or replacement answers NR_NO_SLOT or NR_ALL_FILLED. A group takes 536 bytes, a slot 16 * rows + 51, a
+   reader 5,592, and the map 2,048 more. */
 typedef struct nr_id_shape {
   uint32_t groups;
   uint32_t slots;

@@ -364,6 +364,8 @@ class Part(NamedTuple):
 def parts(rt, crate, edits):
     """The wrong bodies of a crate in parts, which are tried side by side: else a crate that has many would be waited for. One
     part takes every so many, since those that stand beside each other often have one function."""
+    if not edits:
+        return []
     count = -(-len(edits) // PART)
     known = tempfile.TemporaryDirectory(prefix="rt-known-")
     if not unpack(rt, crate, known.name) and count > 1:
