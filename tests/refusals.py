@@ -28,7 +28,7 @@ from typing import NamedTuple
 import kit
 from functions import files_of
 
-PART = 40  # wrong bodies, at most, that one prover tries
+PART = 44  # wrong bodies, at most, that one prover tries
 LONG = 15  # seconds that a wrong body takes which is told
 HEAD = re.compile(r"[^#/]*\bfn \w+")
 TOLD = re.compile(r"(?:note: )?(?:\./)?(\S+?):(\d+):\d+: (.*)")
