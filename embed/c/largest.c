@@ -1,10 +1,10 @@
 /* The largest map and the largest queue open, in the memory that nr.h tells and little more; their last keys, readers
-   and posters work. Linked with --wrap for what the library asks by. */
+   and posters work. A map over ids takes what nr.h tells, too. Linked with --wrap for what the library asks by. */
 #include "../../include/nr.h"
 #include <stdio.h>
 #include <stdlib.h>
 
-enum { KEYS = 4194303, TOKENS = 65535 };
+enum { KEYS = 4194303, TOKENS = 65535, GROUPS = 20000, SLOTS = 10000, ROWS = 15, ID_READERS = 5000 };
 
 /* How many bytes were asked for. */
 static size_t asked;
@@ -68,6 +68,23 @@ static void try_map(void) {
   nr_close_writer(&writer);
 }
 
+/* Of what nr.h tells of a group 152 bytes are words, and of a slot all but 19, and of a reader 128. These are asked for
+   again during the opening. */
+static void try_ids(void) {
+  const nr_id_shape shape = {GROUPS, SLOTS, ID_READERS, ROWS, 7, 0};
+  static nr_id_reader readers[ID_READERS];
+  const size_t slot = 16 * ROWS + 51, handle = 5592 - 128 - 32;
+  nr_id_writer writer = {0};
+  size_t before = asked;
+  want(nr_open_ids(&shape, &writer) == NR_DONE, "a map over ids");
+  took(before, GROUPS * (536 + 152) + SLOTS * (slot + slot - 19) + ID_READERS * (5592 - handle + 128), 0, "a map over ids");
+  before = asked;
+  for (int i = 0; i < ID_READERS; i++) want(nr_open_id_reader(&writer, &readers[i]) == NR_DONE, "a reader by id");
+  took(before, ID_READERS * handle, 0, "its readers by id");
+  for (int i = 0; i < ID_READERS; i++) nr_close_id_reader(&readers[i]);
+  nr_close_id_writer(&writer);
+}
+
 static void try_queue(void) {
   static nr_poster posters[TOKENS];
   nr_taker taker = {0};
@@ -92,7 +109,8 @@ static void try_queue(void) {
 
 int main(void) {
   try_map();
+  try_ids();
   try_queue();
-  puts("the largest map and the largest queue took the memory that they are to take");
+  puts("the largest map, a map over ids and the largest queue took the memory that they are to take");
   return 0;
 }
