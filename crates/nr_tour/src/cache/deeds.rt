@@ -7,7 +7,7 @@ use nr_cache::{Begun, Flight, Landed};
 use std::collections::VecDeque;
 
 /// What a call did.
-#[derive(Clone, Copy, Debug)]
+#[derive(Clone, Copy)]
 pub enum Deed {
     /// A flight began.
     Began(Flight),
