@@ -2,8 +2,9 @@
 ghost use Rattle.std.specs.Prelude.{◌≡◌, ◌<◌};
 ghost use Rattle.nr_idmap.specs.Keepers.{id_rows};
 
-use crate::by_id::opened::{asks, brings, fails, fills, finds_one, is_idle, misses, opened, takes};
+use crate::by_id::opened::{KEY, asks, brings, fails, fills, finds_one, is_idle, misses, takes};
 use crate::by_id::scenes::{Scene, plays};
+use nr_ids::Plan;
 use nr_idserve::{IdClient, IdDataflow};
 use std::process::Abort;
 use std::sync::Wait;
@@ -54,7 +55,10 @@ pub(crate) fn keeps_and_posts<R: Abort + Wait>(
 // Ids 7 and 42 are in two groups, so both can be claimed at once.
 #[test]
 fn a_claim_that_the_queue_refuses_is_kept(rt: HostRuntime) {
-    let (service, _tokens) = opened(&rt, 2, 1);
-    assert!(&rt; service.map().group_of(7) != service.map().group_of(42));
+    let plan = Plan {
+        groups: 2,
+        key: KEY,
+    };
+    assert!(&rt; plan.group_of(7) != plan.group_of(42));
     plays(&rt, Scene::KeepsClaim, 2, 1, None);
 }

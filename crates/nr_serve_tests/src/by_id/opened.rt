@@ -12,6 +12,9 @@ use std::marker::Model;
 use std::process::Abort;
 use std::sync::Wait;
 
+/// By which ids are spread over groups.
+pub(crate) const KEY: u64 = 5;
+
 /// The tokens of a service's dataflow, and of two clients.
 #[derive(Drop)]
 pub(crate) struct Tokens {
@@ -138,7 +141,7 @@ fn map_of<R: Abort + AllocGlobal>(rt: &R, groups: u32) -> (IdMap, IdWriter, IdRe
 {
     let shape = IdShape {
         groups,
-        key: 5,
+        key: KEY,
         slots: 20,
         readers: 2,
         rows: 4,
