@@ -73,11 +73,11 @@ static void try_map(void) {
 static void try_ids(void) {
   const nr_id_shape shape = {GROUPS, SLOTS, ID_READERS, ROWS, 7, 0};
   static nr_id_reader readers[ID_READERS];
-  const size_t slot = 16 * ROWS + 51, handle = 5592 - 128 - 32;
+  const size_t slot = 16 * ROWS + 51, reader = 128 + 32, handle = 5592 - reader;
   nr_id_writer writer = {0};
   size_t before = asked;
   want(nr_open_ids(&shape, &writer) == NR_DONE, "a map over ids");
-  took(before, GROUPS * (536 + 152) + SLOTS * (slot + slot - 19) + ID_READERS * (5592 - handle + 128), 0, "a map over ids");
+  took(before, GROUPS * (536 + 152) + SLOTS * (slot + slot - 19) + ID_READERS * (reader + 128), 0, "a map over ids");
   before = asked;
   for (int i = 0; i < ID_READERS; i++) want(nr_open_id_reader(&writer, &readers[i]) == NR_DONE, "a reader by id");
   took(before, ID_READERS * handle, 0, "its readers by id");

@@ -84,7 +84,10 @@ impl Model for Board {
 
     ghost view = { λ board. record { id = board.table.shared.table_id; shape = board.plan.shape; announcers = board.plan.announcers } };
 
-    ghost invariant = { λ board. (board.table.shared.key.shape ≡ board.plan.shape) × (board.table.shared.table_id.words ≡ total_of (layout board.plan.shape) + own_words board.plan.announcers) × (0 < board.plan.shape.keys) × (board.plan.shape.keys < 2 ^ 32) × IsShape board.plan.shape × (board.plan.announcers ≤ board.plan.shape.readers) };
+    ghost invariant = { λ board. (board.table.shared.key.shape ≡ board.plan.shape)
+        × (board.table.shared.table_id.words ≡ total_of (layout board.plan.shape) + own_words board.plan.announcers)
+        × (0 < board.plan.shape.keys) × (board.plan.shape.keys < 2 ^ 32) × IsShape board.plan.shape
+        × (board.plan.announcers ≤ board.plan.shape.readers) };
 }
 
 /// What a reader says of itself: its index, which is its number less one, and where its own word
@@ -222,7 +225,9 @@ impl Board {
         ensures reader { IdlesAt self.now seat.new }
         ensures hole { is_filled result ≡ false → Gains 1 (model.Find key) (token seat.old) (token seat.new) reply.Hole }
         ensures named { is_filled result ≡ true → Grows 1 [] (token seat.old) (token seat.new) }
-        ensures marks { (view_of seat.new).marks ≡ (if is_filled result then with_look (view_of seat.old).marks key (name_number result) else acted (with_look (view_of seat.old).marks key (name_number result)) (put_number (view_of seat.new).seen key)) }
+        ensures marks { (view_of seat.new).marks ≡ (if is_filled result
+            then with_look (view_of seat.old).marks key (name_number result)
+            else acted (with_look (view_of seat.old).marks key (name_number result)) (put_number (view_of seat.new).seen key)) }
     {
         let words = &self.table.shared;
         words.load::<LooksUp>(seat, key as usize)

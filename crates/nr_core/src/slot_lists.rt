@@ -42,7 +42,10 @@ impl Model for SlotLists {
 
     ghost view = { λ lists. record { slots = lists.slots; fresh = lists.fresh; retired = lists.retired.items; numbers = lists.numbers.items; reaped = reaped_of lists.notes.items } };
 
-    ghost invariant = { λ lists. (lists.slots ≤ deque_capacity lists.retired) × (length lists.notes.items ≡ lists.slots) × (lists.fresh ≤ lists.slots) × CountsRetirements lists.slots lists.retired.items (retirements_of lists.notes.items) × AreReaped lists.passed lists.retired.items (reaped_of lists.notes.items) };
+    ghost invariant = { λ lists. (lists.slots ≤ deque_capacity lists.retired)
+        × (length lists.notes.items ≡ lists.slots) × (lists.fresh ≤ lists.slots)
+        × CountsRetirements lists.slots lists.retired.items (retirements_of lists.notes.items)
+        × AreReaped lists.passed lists.retired.items (reaped_of lists.notes.items) };
 }
 
 impl SlotLists {
